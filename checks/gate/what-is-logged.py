@@ -140,7 +140,7 @@ def requests(it):
     it.calls("- ReadAccount - 401 tokenSignature", "GET", "/account", forged)
     old = signed({"exp": MOMENT, "iat": MOMENT - 9, "sub": "7"})
     it.calls("- ReadAccount - 401 tokenExpired", "GET", "/account", old)
-    it.calls("- ReadAccount - 403 accountRefused", "GET", "/account", signed({"exp": MOMENT + 9, "iat": MOMENT, "sub": "8"}))
+    it.calls("8 ReadAccount - 403 accountRefused", "GET", "/account", signed({"exp": MOMENT + 9, "iat": MOMENT, "sub": "8"}))
     it.calls("7 NewSession - 400 bodyField", "POST", "/testSessions", token, {"mark": MARK})
     it.calls("7 NewSession - 400 bodyNotJson", "POST", "/testSessions", token, body=MARK.encode())
     session = it.calls("7 NewSession - 200 ok", "POST", "/testSessions", token, REGISTRATION)
@@ -150,9 +150,9 @@ def requests(it):
     it.calls("7 ReadSet 700000101 200 ok", "GET", of_set, bound)
     it.calls("7 SetResults 700000101 200 ok", "GET", of_set + "/results", bound)
     it.calls("7 Resubmit 700000101 409 notSubmitted", "PUT", of_set + "/results", bound, {"mark": MARK})
-    it.calls("- ReadSession 7000001 403 sessionTokenNeeded", "GET", path, token)
-    it.calls("- NewVendor - 403 accountTokenNeeded", "POST", "/vendors", bound, {"name": MARK})
-    it.calls("- ReadSession 8000001 403 otherSession", "GET", "/testSessions/8000001", bound)
+    it.calls("7 ReadSession 7000001 403 sessionTokenNeeded", "GET", path, token)
+    it.calls("7 NewVendor - 403 accountTokenNeeded", "POST", "/vendors", bound, {"name": MARK})
+    it.calls("7 ReadSession 8000001 403 otherSession", "GET", "/testSessions/8000001", bound)
     it.calls("7 ReadSet 1 404 noResource", "GET", path + "/vectorSets/1", bound)
     it.calls("7 NewVendor - 200 ok", "POST", "/vendors", token, {"name": MARK})
     it.calls("7 ListVendors - 400 badPage", "GET", f"/vendors?{MARK}", token)
@@ -174,7 +174,7 @@ def orders(it):
     it.orders("control characters", b"account-disable 1 \x1b[31m7\r\n", "- - - - syntax")
     it.orders("account-disable", b"account-disable 1 7\n", "- account-disable 7 - ok")
     token = signed({"exp": MOMENT + 9, "iat": MOMENT, "sub": "7"})
-    it.calls("- ReadAccount - 403 accountRefused", "GET", "/account", token)
+    it.calls("7 ReadAccount - 403 accountRefused", "GET", "/account", token)
 
 
 def hostile_bytes(it):
@@ -198,7 +198,7 @@ def hostile_bytes(it):
     it.calls("- Login - 400 bodyNotJson", "POST", "/login", body=large)
     it.calls("- Login - 400 bodyEnvelope", "POST", "/login", body=b"[" + b'"' + MARK.encode() + b"a" * 2097000 + b'"' + b"]")
     it.asks("a body that is too large", request("POST", "/login", body=b"") .replace(b"Content-Length: 0", b"Content-Length: 2097153"),
-            "- Login - 413 bodyTooLarge")
+            "- - - 413 bodyTooLarge")
     with it.lab.connect() as broken:
         broken.sendall(b"GET /acvp")
         it.lab.wait_until_read(broken)
@@ -217,18 +217,18 @@ def what_is_unavailable(it):
     it.serve()
     token = signed({"exp": MOMENT + 9, "iat": MOMENT, "sub": "8"})
     because = f" because: {STORE}"
-    it.calls(f"- ReadAccount - 503 unavailable{because}", "GET", "/account", token)
+    it.calls(f"8 ReadAccount - 503 unavailable{because}", "GET", "/account", token)
     it.orders("an order on such a row", b"account-disable 1 8\n", f"- account-disable 8 - unavailable{because}")
     other = lab.path("other")
     os.link(lab.db, other)
-    it.calls("- ReadAccount - 503 unavailable because: it has 2 names (hard links), and may have one", "GET", "/account", token)
+    it.calls("8 ReadAccount - 503 unavailable because: it has 2 names (hard links), and may have one", "GET", "/account", token)
     os.remove(other)
     os.rename(lab.db, other)
-    it.calls("- ReadAccount - 503 unavailable because: there is no such file", "GET", "/account", token)
+    it.calls("8 ReadAccount - 503 unavailable because: there is no such file", "GET", "/account", token)
     os.rename(other, lab.db)
     it.at(END_OF_MOMENTS)
     past = "because: the clock is past the year 2099, or can't be read"
-    it.calls(f"- ReadAccount - 503 clockOutOfRange {past}", "GET", "/account", token)
+    it.calls(f"- - - 503 clockOutOfRange {past}", "GET", "/account", token)
     it.at(MOMENT)
     it.calls("- ReadAccount - 401 tokenMissing", "GET", "/account")
 

@@ -1,4 +1,3 @@
 pub mod Lines
 pub mod Log
 pub mod Objects
-pub mod Rules

@@ -1,16 +1,23 @@
 -- What a line tells.
-use Rattle.std.specs.Prelude.{ℕ, List, Bool, true, false, Option, Some, None, codes, decimal, if◌then◌else◌, nat_lt}
+use Rattle.std.specs.Prelude.{ℕ, List, false, Option, Some, None, codes, decimal, if◌then◌else◌, nat_lt}
+use Rattle.acvp_policy.specs.Rule.{rule_status}
+use Rattle.acvp_policy.specs.declared.action.Action.TheVariants as action
+use Rattle.acvp_policy.specs.declared.rule.Rule.{Rule}
+use Rattle.acvp_desk.specs.Wish.{action_of_wish}
+use Rattle.acvp_desk.specs.declared.request.Ask.{Ask}
+use Rattle.acvp_desk.specs.declared.request.Ask.TheVariants as request
 use Rattle.acvp_desk.specs.declared.order.Order.{Order}
 use Rattle.acvp_desk.specs.declared.order.Order.TheVariants as order
 use Rattle.acvp_desk.specs.declared.wish.Wish.{Wish}
 use Rattle.acvp_desk.specs.declared.wish.Wish.TheVariants as wish
+use Rattle.acvp_http.specs.declared.told.Told.{Told}
 use Rattle.acvp_json.specs.Time.{time_of}
 use Rattle.acvp_log.specs.declared.line.Asked.{Asked}
 use Rattle.acvp_log.specs.declared.line.Asked.TheVariants as asked
 use Rattle.acvp_log.specs.declared.line.Came.{Came}
-use Rattle.acvp_log.specs.declared.line.Came.TheVariants.{Done, Refused}
+use Rattle.acvp_log.specs.declared.line.Came.TheVariants.{Broken, Done, Refused}
+use Rattle.acvp_log.specs.declared.line.Entry.{Entry}
 use Rattle.acvp_log.specs.declared.line.Refusal.{Refusal}
-use Rattle.acvp_log.specs.Rules.{is_behind_token}
 
 -- a moment with its date and time, before the year 10000; behind it, its seconds since 1970
 abbrev pub moment_text : ℕ → List ℕ
@@ -44,8 +51,41 @@ abbrev pub word_asked : Asked → Option (List ℕ)
 word_asked (asked.Order word) = Some word.now
 word_asked _ = None
 
--- whose token it was may be told: the token was found to be good
-abbrev pub may_tell : Came Refusal → Bool
-may_tell Done = true
-may_tell (Refused refusal) = is_behind_token refusal.0
-may_tell _ = false
+-- what a request asks for
+abbrev pub action_asked : Option Ask → Asked
+action_asked None = asked.Nothing
+action_asked (Some request.Login) = asked.Action action.Login
+action_asked (Some (request.Caller it)) = asked.Action (action_of_wish it)
+
+abbrev pub subject_asked : Option Ask → Option ℕ
+subject_asked None = None
+subject_asked (Some request.Login) = None
+subject_asked (Some (request.Caller it)) = subject_of it
+
+-- the status of its reply, and what came of it
+abbrev pub status_of : Option Rule → ℕ
+status_of None = 200
+status_of (Some rule) = rule_status rule
+
+abbrev pub came_of : Option Rule → Came Refusal
+came_of None = Done
+came_of (Some rule) = Refused (record { rule = rule })
+
+-- The line of a request has what is told of it. Nothing is told where its connection broke.
+abbrev pub line_of : Option Told → Entry Refusal
+line_of None = record {
+  account = None;
+  asked = asked.Nothing;
+  subject = None;
+  status = None;
+  came = Broken;
+  tail = record { unsent = false; because = None };
+}
+line_of (Some told) = record {
+  account = told.account;
+  asked = action_asked told.asked;
+  subject = subject_asked told.asked;
+  status = Some (status_of told.refused);
+  came = came_of told.refused;
+  tail = record { unsent = false; because = None };
+}

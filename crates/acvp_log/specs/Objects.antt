@@ -2,11 +2,11 @@
 use Rattle.std.specs.Prelude.{codes, option_map}
 use Rattle.serde_json.specs.Data.{Data, object, member, no_members, string, number, boolean, unsigned}
 use Rattle.acvp_json.specs.Nullable.{number_or_null, text_or_null}
-use Rattle.acvp_log.specs.declared.object.Told.{Told}
+use Rattle.acvp_log.specs.declared.object.Shown.{Shown}
 
 -- the members ascend, as in a reply, and each is there
-abbrev pub told_data : Told → Data
-told_data t =
+abbrev pub shown_data : Shown → Data
+shown_data t =
     object (member (codes "account") (number_or_null t.account)
     (member (codes "action") (text_or_null (option_map (λ a. a.now) t.action))
     (member (codes "because") (text_or_null (option_map (λ b. b.now) t.because))

@@ -75,20 +75,19 @@ impl fmt::Display for Number {
 
 /// A rule that a request is refused by.
 #[derive(Clone, Copy)]
-pub(crate) struct Refusal(pub Rule);
+pub(crate) struct Refusal {
+    pub rule: Rule,
+}
 
 impl fmt::Display for Refusal {
     fn fmt<W: fmt::Write>(&self, f: &mut fmt::Formatter<W>) -> fmt::Result {
-        f.write_str(self.0.word())
+        f.write_str(self.rule.word())
     }
 }
 
 /// What came of it, in a word: E is what a request, or an order, is refused by.
 #[derive(Clone, Copy)]
 pub(crate) enum Came<E> {
-    /// That isn't known: there is no reply.
-    Nothing,
-
     /// It is done.
     Done,
 
@@ -102,7 +101,6 @@ pub(crate) enum Came<E> {
 impl<E: fmt::Display> fmt::Display for Came<E> {
     fn fmt<W: fmt::Write>(&self, f: &mut fmt::Formatter<W>) -> fmt::Result {
         match self {
-            Came::Nothing => f.write_str("-"),
             Came::Done => f.write_str("ok"),
             Came::Refused(word) => write!(f, "{word}"),
             Came::Broken => f.write_str("broken"),

@@ -1,22 +1,15 @@
-//! A line for each request and order that was served. It is worked out of the bytes that came and the bytes that were
-//! answered, and holds no other text than the program's own words and numbers.
-ghost use Rattle.std.specs.Prelude.{◌≡◌, ◌↔◌, false, IfOk, None, Some};
-ghost use Rattle.acvp_log.specs.Lines.{may_tell};
+//! A line for each request and order that was served. It holds what is told of them, in the program's own words and
+//! numbers.
+ghost use Rattle.std.specs.Prelude.{◌≡◌, None};
 ghost use Rattle.acvp_log.specs.Log.{IsBegunBy, moment_begun, order_begun};
-ghost use Rattle.acvp_log.specs.declared.line.Came.TheVariants.{Done};
 
+use crate::asked::{entry_of, named_by};
 use crate::form::LogForm;
-use crate::head::{
-    came_unanswered, claimed_account, given_account, head_of, named_by, reply_of, rule_in,
-    subject_of,
-};
 use crate::line::{Asked, Came, Entry, Number, Refusal, Tail, When, moment_text};
-use crate::object::{Told, told_value};
-use crate::rules::is_behind_token;
+use crate::object::{Shown, shown_value};
 use acvp_causes::{Cause, why_refused};
-use acvp_desk::Ask;
-use acvp_http::{Routes, order_in};
-use acvp_policy::{Action, Rule};
+use acvp_http::{Told, order_in};
+use acvp_policy::Rule;
 use std::alloc::{AllocError, Global};
 use std::fmt;
 use std::fs::Files;
@@ -32,21 +25,6 @@ struct Begun {
     order: (Asked, Option<u64>),
 }
 
-/// What a request asks for, the number of what that is about, and the token that it carries.
-#[derive(Clone, Copy)]
-struct AskedBy<'a> {
-    asked: Asked,
-    subject: Option<u64>,
-    token: Option<&'a [u8]>,
-}
-
-/// What is known of a request without a head that can be read.
-const UNREAD: AskedBy<'_> = AskedBy {
-    asked: Asked::Nothing,
-    subject: None,
-    token: None,
-};
-
 /// The object of a line for which memory ran out.
 const WITHOUT_MEMORY: &str =
     "{\"account\":null,\"action\":null,\"because\":\"little memory is left\",\"milliseconds\":0,\"result\":null,\"sent\":false,\"status\":null,\"subject\":null,\"time\":null}";
@@ -56,7 +34,6 @@ const WITHOUT_MEMORY: &str =
 pub struct Log {
     alloc: Global,
     form: LogForm,
-    routes: Routes,
     begun: Begun,
 }
 
@@ -70,19 +47,18 @@ fn unless_none(word: &str) -> Option<&str> {
 
 impl Log {
     /// A log of this form, in which nothing is being served.
-    pub fn new(alloc: Global, form: LogForm) -> Result<Log, AllocError>
-        ensures { IfOk result (λ log. order_begun log ≡ (None, None)) }
+    pub fn new(alloc: Global, form: LogForm) -> Log
+        ensures { order_begun result ≡ (None, None) }
     {
-        Ok(Log {
+        Log {
             alloc,
             form,
-            routes: Routes::new(alloc)?,
             begun: Begun {
                 moment: 0,
                 since: None,
                 order: (Asked::Nothing, None),
             },
-        })
+        }
     }
 
     /// A request is handed on, at this moment.
@@ -105,26 +81,6 @@ impl Log {
         self.begin(clock, moment);
         if let Some((_, order)) = order_in(line) {
             self.begun.order = named_by(&order);
-        }
-    }
-
-    /// What is known of a request.
-    fn asked_by<'a>(&self, request: Option<&'a [u8]>) -> AskedBy<'a> {
-        let Some(request) = request else {
-            return UNREAD;
-        };
-        let Some(head) = head_of(request) else {
-            return UNREAD;
-        };
-        let (asked, subject) = match self.routes.find(head.method, head.target) {
-            Ok(Ask::Login) => (Asked::Action(Action::Login), None),
-            Ok(Ask::Caller(wish)) => (Asked::Action(wish.action()), subject_of(wish)),
-            Err(_) => (Asked::Nothing, None),
-        };
-        AskedBy {
-            asked,
-            subject,
-            token: head.token,
         }
     }
 
@@ -152,7 +108,7 @@ impl Log {
             Some(cause) => Some(format!(in alloc; "{cause}")?),
             None => None,
         };
-        let told = Told {
+        let shown = Shown {
             account: entry.account.map(u64::from),
             action: unless_none(action.as_str()),
             because: because.as_ref().map(|text| text.as_str()),
@@ -163,7 +119,7 @@ impl Log {
             subject: entry.subject,
             time: time.as_str(),
         };
-        told_value(alloc, told)?.to_string(alloc)
+        shown_value(alloc, shown)?.to_string(alloc)
     }
 
     /// Writes a line as a JSON object.
@@ -215,62 +171,28 @@ impl Log {
         );
     }
 
-    /// What the line of a request tells that was answered so. Nothing came of a connection that broke.
-    fn entry_of(&self, alloc: Global, request: Option<&[u8]>, reply: &[u8]) -> Entry<Refusal>
-        ensures account { may_tell result.came ≡ false → result.account ≡ None }
-        ensures done { (result.came ≡ Done) ↔ (result.status ≡ Some 200) }
-    {
-        let AskedBy {
-            asked,
-            subject,
-            token,
-        } = self.asked_by(request);
-        let is_login = matches!(asked, Asked::Action(Action::Login));
-        let mut entry = Entry {
-            account: None,
-            asked,
-            subject,
-            status: None,
-            came: came_unanswered(request),
-            tail: Tail {
-                unsent: false,
-                because: None,
-            },
-        };
-        let Some((status, body)) = reply_of(reply) else {
-            return entry;
-        };
-        entry.status = Some(u64::from(status));
-        if status == 200 {
-            entry.came = Came::Done;
-            entry.account = if is_login {
-                given_account(alloc, body)
-            } else {
-                claimed_account(alloc, token)
-            };
-        } else if let Some(rule) = rule_in(alloc, body) {
-            entry.came = Came::Refused(Refusal(rule));
-            if is_behind_token(rule) && !is_login {
-                entry.account = claimed_account(alloc, token);
-            }
-        }
-        entry
-    }
-
-    /// Writes the line of a request that was answered so, by a reply that was handed out whole or not.
+    /// Writes the line of a request. `told` is none if its connection broke; `sent` says whether its whole reply was
+    /// handed out.
     pub fn tell_request<R: Clock + Eprint + Files>(
         &self,
         rt: &R,
         alloc: Global,
         database: &str,
-        request: Option<&[u8]>,
-        reply: &[u8],
+        told: Option<Told>,
         sent: bool,
     ) {
-        let mut entry = self.entry_of(alloc, request, reply);
+        let mut entry = entry_of(told);
         let because = match entry.came {
-            Came::Refused(Refusal(Rule::ClockOutOfRange)) => Some(Cause::Clock),
-            Came::Refused(Refusal(Rule::Unavailable)) => Some(why_refused(rt, alloc, database)),
+            Came::Refused(
+                Refusal {
+                    rule: Rule::ClockOutOfRange,
+                },
+            ) => Some(Cause::Clock),
+            Came::Refused(
+                Refusal {
+                    rule: Rule::Unavailable,
+                },
+            ) => Some(why_refused(rt, alloc, database)),
             _ => None,
         };
         let unsent = !sent && !matches!(entry.came, Came::Broken);

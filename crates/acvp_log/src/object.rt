@@ -1,7 +1,7 @@
 //! A line as a JSON object.
 ghost use Rattle.std.specs.Prelude.{◌≡◌, IfOk};
 ghost use Rattle.serde_json.specs.View.{view};
-ghost use Rattle.acvp_log.specs.Objects.{told_data};
+ghost use Rattle.acvp_log.specs.Objects.{shown_data};
 
 use acvp_json::{number_or_null, text_or_null};
 use serde_json::{Value, json};
@@ -9,7 +9,7 @@ use std::alloc::{AllocError, Global};
 
 /// What a line tells, in texts and numbers.
 #[derive(Clone, Copy)]
-pub(crate) struct Told<'a> {
+pub(crate) struct Shown<'a> {
     pub account: Option<u64>,
     pub action: Option<&'a str>,
     pub because: Option<&'a str>,
@@ -22,21 +22,21 @@ pub(crate) struct Told<'a> {
 }
 
 /// What a line tells, as an object whose members ascend.
-pub(crate) fn told_value(alloc: Global, told: Told<'_>) -> Result<Value, AllocError>
-    ensures { IfOk result (λ value. view value ≡ told_data told.entry) }
+pub(crate) fn shown_value(alloc: Global, shown: Shown<'_>) -> Result<Value, AllocError>
+    ensures { IfOk result (λ value. view value ≡ shown_data shown.entry) }
 {
-    let action = text_or_null(alloc, told.action)?;
-    let because = text_or_null(alloc, told.because)?;
-    let result = text_or_null(alloc, told.result)?;
+    let action = text_or_null(alloc, shown.action)?;
+    let because = text_or_null(alloc, shown.because)?;
+    let result = text_or_null(alloc, shown.result)?;
     json!(in alloc; {
-        "account": number_or_null(told.account),
+        "account": number_or_null(shown.account),
         "action": action,
         "because": because,
-        "milliseconds": told.milliseconds,
+        "milliseconds": shown.milliseconds,
         "result": result,
-        "sent": told.sent,
-        "status": number_or_null(told.status),
-        "subject": number_or_null(told.subject),
-        "time": told.time
+        "sent": shown.sent,
+        "status": number_or_null(shown.status),
+        "subject": number_or_null(shown.subject),
+        "time": shown.time
     })
 }

@@ -6,7 +6,7 @@ use Rattle.acvp_port.specs.declared.client.Outgoing.{Outgoing}
 use Rattle.acvp_port.specs.declared.client.Wire.{Wire}
 use Rattle.acvp_port.specs.declared.client.Wire.TheVariants as wire
 use Rattle.acvp_port.specs.Incoming.{bytes_of}
-use Rattle.acvp_port.specs.Outgoing.{kept_front, waiting}
+use Rattle.acvp_port.specs.Outgoing.{waiting}
 
 -- the bytes of it that came; none of a request whose connection is broken
 abbrev pub bytes_asked : Errand → Option (List ℕ)
@@ -18,9 +18,9 @@ abbrev pub output_of : Errand → Outgoing
 output_of (Request input output) = output
 output_of (Order line output) = output
 
--- nothing of its answer waits, and no front of it is kept
+-- nothing of its answer waits
 abbrev pub IsUnanswered : Errand → Type 0
-IsUnanswered errand = (waiting (output_of errand) ≡ []) × (kept_front (output_of errand) ≡ None)
+IsUnanswered errand = waiting (output_of errand) ≡ []
 
 -- a request that isn't whole is of a connection that is broken; a line of an order is what came of it
 abbrev pub asked_of : Wire → List ℕ → Bool → Option (List ℕ)

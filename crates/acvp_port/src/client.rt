@@ -9,7 +9,7 @@ ghost use Rattle.acvp_port.specs.Errand.{IsUnanswered, asked_of, bytes_asked};
 ghost use Rattle.acvp_port.specs.Incoming.{bytes_of, bytes_left};
 ghost use Rattle.acvp_port.specs.Stage.{bytes_coming, is_coming, is_ended};
 ghost use Rattle.acvp_port.specs.declared.client.Stage.TheVariants.{Going};
-ghost use Rattle.acvp_port.specs.Outgoing.{Notes, Takes, kept_front, waiting};
+ghost use Rattle.acvp_port.specs.Outgoing.{Takes, waiting};
 
 use acvp_http::{HEAD_BYTES, needed_bytes};
 use mio::net::{TcpStream, UnixStream};
@@ -23,9 +23,6 @@ const LINE_BYTES: usize = 128;
 
 /// The most bytes that are taken of a connection behind its reply.
 const MOST_DROPPED: usize = 4194304;
-
-/// How many bytes of an answer's front are kept where they are asked for.
-const FRONT_BYTES: usize = 1024;
 
 /// How many bytes are read at once.
 const CHUNK: usize = 8192;
@@ -222,18 +219,6 @@ pub enum Incoming {
     Broken,
 }
 
-impl Incoming {
-    /// All the bytes that came, also those that were read; none of a connection that is broken.
-    pub fn bytes(&self) -> Option<&[u8]>
-        ensures { option_copied result ≡ bytes_of self.now }
-    {
-        match self {
-            Incoming::Bytes(bytes) => Some(bytes.get_ref().as_slice()),
-            Incoming::Broken => None,
-        }
-    }
-}
-
 impl Read for Incoming {
     ghost remaining = { bytes_left };
 
@@ -266,53 +251,16 @@ fn came(alloc: Global, stage: Stage) -> Vec<u8>
 pub struct Outgoing {
     wire: Wire,
     rest: Vec<u8>,
-
-    /// The first bytes of the answer, where they are kept.
-    front: Option<Vec<u8>>,
 }
 
-impl Outgoing {
-    /// Has the first bytes of the answer kept.
-    pub fn keep_front(&mut self, alloc: Global)
-        ensures front { kept_front self.new ≡ Some [] }
-        ensures waiting { waiting self.new ≡ waiting self.old }
-    {
-        self.front = Some(Vec::new(alloc));
-    }
-
-    /// The first bytes of the answer, where they are kept.
-    pub fn front(&self) -> &[u8]
-        ensures { result.now ≡ unwrap_or (kept_front self.now) [] }
-    {
-        match &self.front {
-            Some(front) => front.as_slice(),
-            None => &[],
-        }
-    }
-
-    /// Keeps of these bytes what belongs to the front.
-    fn note(&mut self, bytes: &[u8])
-        ensures front { Notes self.old bytes.now self.new }
-        ensures waiting { waiting self.new ≡ waiting self.old }
-    {
-        if let Some(front) = &mut self.front {
-            let room = FRONT_BYTES.saturating_sub(front.len());
-            let _ = front.extend_from_slice(bytes.get(..room).unwrap_or(bytes));
-        }
-    }
-
+impl Write for Outgoing {
     /// Takes as many of these bytes as the client does at once, or keeps them all.
-    fn take(&mut self, buf: &[u8]) -> io::Result<usize>
+    fn write(&mut self, buf: &[u8]) -> io::Result<usize>
         ensures taken { IfOk result (λ count. Takes self.old buf.now count self.new) }
-        ensures err { OnErr result (waiting self.new ≡ waiting self.old) }
         ensures memory { waiting self.old ≢ [] → IfErr result (λ error. error_kind error ≡ ErrorKind.OutOfMemory) }
-        ensures front { kept_front self.new ≡ kept_front self.old }
+        ensures err_waiting { OnErr result (waiting self.new ≡ waiting self.old) }
     {
-        let Outgoing {
-            wire,
-            rest,
-            front: _,
-        } = self;
+        let Outgoing { wire, rest } = self;
         if rest.is_empty() {
             match wire.write(buf) {
                 Movement::Bytes(count) => return Ok(count.min(buf.len())),
@@ -324,22 +272,6 @@ impl Outgoing {
             Ok(()) => Ok(buf.len()),
             Err(_) => Err(ErrorKind::OutOfMemory.into()),
         }
-    }
-}
-
-impl Write for Outgoing {
-    fn write(&mut self, buf: &[u8]) -> io::Result<usize>
-        ensures taken { IfOk result (λ count. Takes self.old buf.now count self.new) }
-        ensures front { IfOk result (λ count. Notes self.old (take count buf.now) self.new) }
-        ensures memory { waiting self.old ≢ [] → IfErr result (λ error. error_kind error ≡ ErrorKind.OutOfMemory) }
-        ensures err_waiting { OnErr result (waiting self.new ≡ waiting self.old) }
-        ensures err_front { OnErr result (kept_front self.new ≡ kept_front self.old) }
-    {
-        let count = self.take(buf)?;
-        if self.front.is_some() {
-            self.note(buf.get(..count).unwrap_or(buf));
-        }
-        Ok(count)
     }
 
     fn flush(&mut self) -> io::Result<()>
@@ -362,7 +294,6 @@ fn errand_of(alloc: Global, wire: Wire, bytes: Vec<u8>, whole: bool) -> Errand
     ensures unanswered { IsUnanswered result }
 {
     let rest = Vec::new(alloc);
-    let front = None;
     match wire {
         Wire::Request(stream) => {
             let input = if whole {
@@ -371,11 +302,11 @@ fn errand_of(alloc: Global, wire: Wire, bytes: Vec<u8>, whole: bool) -> Errand
                 Incoming::Broken
             };
             let wire = Wire::Request(stream);
-            Errand::Request(input, Outgoing { wire, rest, front })
+            Errand::Request(input, Outgoing { wire, rest })
         }
         Wire::Order(stream) => {
             let wire = Wire::Order(stream);
-            Errand::Order(bytes, Outgoing { wire, rest, front })
+            Errand::Order(bytes, Outgoing { wire, rest })
         }
     }
 }
@@ -397,11 +328,7 @@ impl Client {
     pub(crate) fn answered(output: Outgoing) -> Client
         ensures { result.stage ≡ Going output.rest 0 }
     {
-        let Outgoing {
-            wire,
-            rest,
-            front: _,
-        } = output;
+        let Outgoing { wire, rest } = output;
         Client {
             wire,
             stage: Stage::Going(rest, 0),

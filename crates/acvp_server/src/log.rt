@@ -2,9 +2,8 @@
 use crate::flags::Flags;
 use acvp_causes::why_refused;
 use acvp_commands::{Fault, Log, Message, moment_of};
-use acvp_http::Flagged;
+use acvp_http::Told;
 use acvp_log::Log as Lines;
-use acvp_port::{Incoming, Outgoing};
 use std::alloc::Global;
 use std::fs::Files;
 use std::time::Clock;
@@ -26,21 +25,23 @@ impl<'a, R> LineLog<'a, R> {
         alloc: Global,
         database: &'a str,
         flags: Flags,
-    ) -> Result<Option<LineLog<'a, R>>, Fault> {
-        let Some(form) = flags.log else {
-            return Ok(None);
-        };
-        let lines = Lines::new(alloc, form)?;
-        Ok(Some(LineLog {
+    ) -> Option<LineLog<'a, R>> {
+        let form = flags.log?;
+        Some(LineLog {
             alloc,
             rt,
             database,
-            lines,
-        }))
+            lines: Lines::new(alloc, form),
+        })
     }
 }
 
-impl<'a, R: Clock + Eprint + Files> Log<Flagged<Incoming>, Flagged<Outgoing>> for LineLog<'a, R> {
+impl<'a, R: Clock + Eprint + Files> Log for LineLog<'a, R> {
+    ghost use Rattle.std.specs.Prelude.{⊤};
+
+    // No contract can say what is written to standard error.
+    ghost tells = { λ _ _ _. ⊤ };
+
     fn begin(&mut self, moment: u64) {
         self.lines.begin(self.rt, moment);
     }
@@ -49,11 +50,9 @@ impl<'a, R: Clock + Eprint + Files> Log<Flagged<Incoming>, Flagged<Outgoing>> fo
         self.lines.begin_order(self.rt, moment_of(self.rt), line);
     }
 
-    fn tell_request(&self, input: &Flagged<Incoming>, output: &Flagged<Outgoing>, sent: bool) {
-        let (request, reply) = (input.get_ref().bytes(), output.get_ref().front());
+    fn tell_request(&self, told: Option<Told>, sent: bool) {
         let (rt, alloc, database) = (self.rt, self.alloc, self.database);
-        self.lines
-            .tell_request(rt, alloc, database, request, reply, sent);
+        self.lines.tell_request(rt, alloc, database, told, sent);
     }
 
     fn tell_order(&self, outcome: Result<Message, Fault>) {

@@ -2,7 +2,7 @@
 use crate::flags::Flags;
 use crate::log::LineLog;
 use acvp_commands::{Arrival, Fault, Listener, Logged, Message, Service, Taken};
-use acvp_http::Flagged;
+use acvp_http::{Flagged, Told};
 use acvp_port::{Errand, Incoming, Outgoing, Port, port_on};
 use std::alloc::{AllocError, Global};
 use std::fs::Files;
@@ -17,9 +17,6 @@ pub(crate) struct MachinePort<'a, R> {
     alloc: Global,
     rt: &'a R,
     port: Port<'a, R>,
-
-    /// Whether the first bytes of each answer are kept, for a log.
-    keeps_fronts: bool,
 }
 
 /// The port, of which a log is kept if one is asked for.
@@ -33,17 +30,11 @@ pub(crate) fn logged_port<'a, R: Clock + Files + Net>(
     service: Service,
     flags: Flags,
 ) -> Result<LoggedPort<'a, R>, Fault> {
-    let log = LineLog::asked_for(rt, alloc, database, flags)?;
-    let keeps_fronts = log.is_some();
+    let log = LineLog::asked_for(rt, alloc, database, flags);
     let Service { port, patience, .. } = service;
     match port_on(rt, alloc, database, port, patience, flags.warns) {
         Ok(port) => Ok(Logged {
-            listener: MachinePort {
-                alloc,
-                rt,
-                port,
-                keeps_fronts,
-            },
+            listener: MachinePort { alloc, rt, port },
             log,
         }),
         Err(error) => Err(Fault::Bind.of_system(&error)),
@@ -78,26 +69,32 @@ impl<'a, R: Clock + Eprint + Files> Listener for MachinePort<'a, R> {
     type Asker = Outgoing;
 
     // No contract can say what a socket gives or takes.
-    ghost listening = { record { takes = λ _ _ _. ⊤; stops = λ _ _. ⊤; ends = λ _ _ _ _ _. ⊤; tells = λ _ _ _ _. ⊤ } };
+    ghost listening = { record {
+      takes = λ _ _ _. ⊤;
+      stops = λ _ _. ⊤;
+      ends = λ _ _ _ _ _ _. ⊤;
+      tells = λ _ _ _ _. ⊤;
+    } };
 
     fn accept(&mut self) -> Result<Arrival<Flagged<Incoming>, Flagged<Outgoing>, Outgoing>, Fault> {
         match self.port.next() {
-            Some(Errand::Request(input, mut output)) => {
-                if self.keeps_fronts {
-                    output.keep_front(self.alloc);
-                }
-                Ok(Arrival::Connection(Taken {
-                    input: Flagged::new(input),
-                    output: Flagged::new(output),
-                    now: SystemTime::now(self.rt),
-                }))
-            }
+            Some(Errand::Request(input, output)) => Ok(Arrival::Connection(Taken {
+                input: Flagged::new(input),
+                output: Flagged::new(output),
+                now: SystemTime::now(self.rt),
+            })),
             Some(Errand::Order(line, output)) => Ok(Arrival::Order(line, output)),
             None => Err(Fault::Accept),
         }
     }
 
-    fn end(&mut self, _: Flagged<Incoming>, output: Flagged<Outgoing>, sent: bool) {
+    fn end(
+        &mut self,
+        _: Flagged<Incoming>,
+        output: Flagged<Outgoing>,
+        sent: bool,
+        _: Option<Told>,
+    ) {
         if sent {
             self.port.let_out(output.into_inner());
         }
