@@ -1,8 +1,8 @@
 //! Backups of a database, and the way back from one.
-use crate::copies::{connection_to, connection_to_part, copy_file, copy_into, merge, with_tables};
+use crate::copies::{CopyOf, connection_to, copy_file, source_at};
 use crate::fault::{CopyFault, Step, at};
-use crate::parts::{Pair, Part, Use, give_up, has_name, make_new, new_copy, pair_at, replaced_at};
-use crate::rows::count_rows;
+use crate::naming::{NewName, give_name, keep_names};
+use crate::parts::{Pair, Part, Use, give_up, has_name, new_copy, pair_at, replaced_at};
 use crate::sums::copy_with_sums;
 use acvp_causes::{
     cause_of_folder, cause_of_path, folder_of, has_journal, has_log, has_sums, holds_any,
@@ -11,10 +11,12 @@ use acvp_causes::{
 use acvp_connections::{
     FileFault, FileNumber, copied, done, fault_of_cause, file_at, number_of, refused, remove,
 };
-use sqlite::{Alter, Connection, FileStore};
-use sqlite_disk::Disk;
+use acvp_copying::{
+    InPlace, Making, Naming, Placing, Replacing, Restoring, back_up, bring_back, place_alone,
+    replace_kept,
+};
 use std::alloc::{AllocError, AllocGlobal, Global};
-use std::fs::{self, File, Metadata};
+use std::fs::{self, Metadata};
 use std::io::{self, ErrorKind};
 
 /// Whether there is a file of a path, whatever it is.
@@ -69,114 +71,6 @@ pub(crate) fn may_be_made(rt: &HostRuntime, path: &str) -> Result<(), FileFault>
     Ok(())
 }
 
-/// Takes over tables that are to be served, which must be those of this version.
-fn if_known<S: Alter + Drop>(
-    alloc: Global,
-    connection: Connection<S>,
-    is_served: bool,
-) -> Result<Connection<S>, FileFault> {
-    if is_served {
-        with_tables(alloc, connection)
-    } else {
-        Ok(connection)
-    }
-}
-
-/// Says how many rows a copy has, and gives its connection back. If it is to be served, its tables must be those of
-/// this version.
-fn counted_if_known<S: Alter + Drop>(
-    alloc: Global,
-    connection: Connection<S>,
-    is_served: bool,
-) -> Result<(Connection<S>, u64), FileFault> {
-    let mut known = if_known(alloc, connection, is_served)?;
-    match count_rows(alloc, &mut known) {
-        Ok(count) => Ok((known, count)),
-        Err(fault) => Err(fault),
-    }
-}
-
-/// Has all that a copy's database and its log hold in the file alone, and says how many rows it has. If it is to be
-/// served, its tables must be those of this version.
-fn finish<D: Disk + Drop>(
-    rt: &HostRuntime,
-    connection: Connection<FileStore<D>>,
-    part: &Part,
-    is_served: bool,
-) -> Result<u64, FileFault> {
-    match counted_if_known(rt.alloc(), connection, is_served) {
-        Ok((counted, rows)) => match merge(rt, part, counted) {
-            Ok(()) => Ok(rows),
-            Err(fault) => Err(fault),
-        },
-        Err(fault) => Err(fault),
-    }
-}
-
-/// Makes one whole file of a copy and its log, and says how many rows it has.
-fn finish_part(rt: &HostRuntime, part: &Part, is_served: bool) -> Result<u64, FileFault> {
-    match connection_to_part(rt, part) {
-        Ok(connection) => finish(rt, connection, part, is_served),
-        Err(fault) => Err(fault),
-    }
-}
-
-/// Makes one whole file of the database of a name, beside where it is to be, and says how many rows it has.
-fn make_part(rt: &HostRuntime, from: &str, part: &Part, is_served: bool) -> Result<u64, CopyFault> {
-    copy_into(rt, from, part)?;
-    at(Step::Content, finish_part(rt, part, is_served))
-}
-
-/// Has the names in the folder of a path kept by the disk.
-fn keep_names(rt: &HostRuntime, path: &str) -> io::Result<()> {
-    File::open(rt, folder_of(path))?.sync_all()
-}
-
-/// Gives a copy its name by a second one, if no file has it. If the first can't be taken away, it has that alone.
-fn link_new(rt: &HostRuntime, file: &str, to: &str) -> io::Result<()> {
-    fs::hard_link(rt, file, to)?;
-    match remove(rt, file) {
-        Ok(()) => Ok(()),
-        Err(_) => {
-            let _ = remove(rt, to);
-            Err(ErrorKind::ResourceBusy.into())
-        }
-    }
-}
-
-/// Gives a copy its name, if no file has it, without a second one: an empty file keeps the name until the copy has it.
-fn rename_new(rt: &HostRuntime, file: &str, to: &str) -> io::Result<()> {
-    let made = make_new(rt, to)?;
-    match fs::rename(rt, file, to) {
-        Ok(()) => Ok(()),
-        Err(error) => {
-            if matches!(has_name(rt, &made, to), Ok(true)) {
-                let _ = remove(rt, to);
-            }
-            Err(error)
-        }
-    }
-}
-
-/// Gives a copy its name, if no file has it. Some file systems know no second names.
-pub(crate) fn name_new(rt: &HostRuntime, part: &Part, to: &str) -> Result<(), FileFault> {
-    done(part.is_still_named(rt))?;
-    let file = part.pair.file.as_str();
-    let named = match link_new(rt, file, to) {
-        Err(error)
-            if matches!(
-                error.kind(),
-                ErrorKind::PermissionDenied | ErrorKind::Unsupported
-            ) => { rename_new(rt, file, to) }
-        named => named,
-    };
-    match named {
-        Ok(()) => done(keep_names(rt, to)),
-        Err(error) if error.kind() == ErrorKind::AlreadyExists => Err(FileFault::Taken),
-        Err(error) => Err(refused(&error)),
-    }
-}
-
 /// The path beside which the copy of a database is made that gets a name: the database's own name, in the folder of
 /// the other. So a later backup finds what a killed one has left.
 fn base_for(alloc: Global, database: &str, to: &str) -> Result<String, AllocError> {
@@ -191,16 +85,21 @@ fn new_part(rt: &HostRuntime, database: &str, to: &str) -> Result<Part, FileFaul
 }
 
 /// Makes a whole copy of the database of a name, and gives it a path that no file has.
-fn back_up(rt: &HostRuntime, database: &str, part: &Part, to: &str) -> Result<u64, CopyFault> {
-    let count = make_part(rt, database, part, false)?;
-    at(Step::Target, name_new(rt, part, to))?;
-    Ok(count)
+fn back_up_part(rt: &HostRuntime, database: &str, part: &Part, to: &str) -> Result<u64, CopyFault> {
+    let source = source_at(rt, database)?;
+    back_up(&mut CopyOf {
+        rt,
+        source: &source,
+        part,
+        is_served: false,
+        to,
+    })
 }
 
 /// Makes a copy of the database of a name, whole, and says how many rows it has.
 fn backup_of(rt: &HostRuntime, database: &str, to: &str) -> Result<u64, CopyFault> {
     let part = at(Step::Begin, new_part(rt, database, to))?;
-    let outcome = back_up(rt, database, &part, to);
+    let outcome = back_up_part(rt, database, &part, to);
     give_up(rt, &part);
     outcome
 }
@@ -215,51 +114,108 @@ pub fn backup(rt: &HostRuntime, database: &str, to: &str) -> Result<u64, CopyFau
     backup_of(rt, name.as_str(), to)
 }
 
-/// Copies a database that is to be replaced, and gives the copy a name. Its log holds nothing. The copy has its owner,
-/// its group and its mode.
-fn copy_replaced(
-    rt: &HostRuntime,
-    path: &str,
-    there: &Metadata,
-    part: &Part,
-    kept: &str,
-) -> Result<(), FileFault> {
-    done(copy_file(rt, path, &part.file))?;
-    done(part.keep_access(there))?;
-    match name_new(rt, part, kept) {
-        Err(FileFault::Taken) => Err(FileFault::Unavailable),
-        named => named,
-    }
-}
-
 /// Whether a file still has its path.
 fn is_still_there(rt: &HostRuntime, path: &str, number: FileNumber) -> bool {
     matches!(file_at(rt, path), Ok(there) if there == number)
 }
 
-/// Gives a copy the name of a database, which is still this file, with a log that holds nothing. The log goes first: it
-/// isn't one of the copy's.
-fn take_place(
-    rt: &HostRuntime,
-    part: &Part,
-    database: &Pair,
-    number: FileNumber,
-) -> io::Result<()> {
-    if !is_still_there(rt, database.file.as_str(), number)
-        || holds_any(rt, database.log.as_str())?
-    {
-        return Err(ErrorKind::ResourceBusy.into());
-    }
-    remove(rt, database.log.as_str())?;
-    fs::rename(rt, part.pair.file.as_str(), database.file.as_str())
+/// A copy, a database in whose place it is to be put, and another copy, of that database.
+#[derive(Clone, Copy)]
+struct Replacement<'a> {
+    rt: &'a HostRuntime,
+
+    /// The copy that is put in its place.
+    part: &'a Part,
+
+    /// The database that is replaced, and what it is.
+    database: &'a Pair,
+    there: &'a Metadata,
+
+    /// The copy of it, and the path under which it is kept.
+    old: &'a Part,
+    kept: &'a str,
 }
 
-/// Takes the name of what was to be kept away, if it is this copy's, and the database is still there.
-fn drop_kept(rt: &HostRuntime, path: &str, there: &Metadata, copy: &Part, kept: &str) {
-    if is_still_there(rt, path, number_of(there))
-        && matches!(has_name(rt, &copy.file, kept), Ok(true))
-    {
-        let _ = remove(rt, kept);
+impl Making for Replacement<'_> {
+    ghost use Rattle.std.specs.Prelude.{⊤};
+
+    type Number = FileNumber;
+
+    type Fault = FileFault;
+
+    // No contract can say what files hold.
+    ghost does = { λ _ _ _. ⊤ };
+
+    fn is_still_named(&mut self) -> Result<(), FileFault> {
+        done(self.old.is_still_named(self.rt))
+    }
+}
+
+impl Naming for Replacement<'_> {
+    fn give_name(&mut self) -> Result<(), FileFault> {
+        give_name(self.rt, self.old, self.kept)
+    }
+
+    fn sync_folder(&mut self) -> Result<(), FileFault> {
+        done(keep_names(self.rt, self.database.file.as_str()))
+    }
+}
+
+impl Placing for Replacement<'_> {
+    fn is_log_full(&mut self) -> Result<bool, FileFault> {
+        done(holds_any(self.rt, self.database.log.as_str()))
+    }
+
+    fn is_log_held(&mut self) -> Result<bool, FileFault> {
+        Ok(is_held_by_any(self.rt, self.database.log.as_str())?)
+    }
+
+    fn remove_log(&mut self) -> Result<(), FileFault> {
+        done(remove(self.rt, self.database.log.as_str()))
+    }
+
+    fn fault_of_place(&self) -> FileFault {
+        FileFault::Unavailable
+    }
+}
+
+impl Replacing for Replacement<'_> {
+    fn copy_old(&mut self) -> Result<bool, FileFault> {
+        done(copy_file(self.rt, self.database.file.as_str(), &self.old.file))
+    }
+
+    fn sync_old(&mut self) -> Result<(), FileFault> {
+        done(self.old.file.sync_all())
+    }
+
+    fn keep_access(&mut self) -> Result<(), FileFault> {
+        done(self.old.keep_access(self.there))
+    }
+
+    fn is_still_there(&mut self) -> bool {
+        is_still_there(self.rt, self.database.file.as_str(), number_of(self.there))
+    }
+
+    fn take_path(&mut self) -> Result<(), FileFault> {
+        let (from, to) = (self.part.pair.file.as_str(), self.database.file.as_str());
+        done(fs::rename(self.rt, from, to))
+    }
+
+    fn drop_kept(&mut self) {
+        let path = self.database.file.as_str();
+        if is_still_there(self.rt, path, number_of(self.there))
+            && matches!(has_name(self.rt, &self.old.file, self.kept), Ok(true))
+        {
+            let _ = remove(self.rt, self.kept);
+        }
+    }
+}
+
+/// The same, where no other file may have the name that is given.
+fn unless_taken<T>(outcome: Result<T, FileFault>) -> Result<T, FileFault> {
+    match outcome {
+        Err(FileFault::Taken) => Err(FileFault::Unavailable),
+        outcome => outcome,
     }
 }
 
@@ -270,20 +226,21 @@ fn keep_and_take(
     part: &Part,
     database: &Pair,
     there: &Metadata,
-    copy: &Part,
-) -> Result<String, FileFault> {
-    let path = database.file.as_str();
-    let kept = replaced_at(rt, path)?;
-    let outcome = match copy_replaced(rt, path, there, copy, kept.as_str()) {
-        Ok(()) => done(take_place(rt, part, database, number_of(there))),
-        Err(fault) => Err(fault),
+    old: &Part,
+) -> Result<InPlace<String>, FileFault> {
+    let kept = replaced_at(rt, database.file.as_str())?;
+    let mut files = Replacement {
+        rt,
+        part,
+        database,
+        there,
+        old,
+        kept: kept.as_str(),
     };
-    if outcome.is_err() {
-        drop_kept(rt, path, there, copy, kept.as_str());
+    match unless_taken(replace_kept(&mut files)) {
+        Ok(in_place) => Ok(in_place.named(kept)),
+        Err(fault) => Err(fault),
     }
-    outcome?;
-    done(keep_names(rt, path))?;
-    Ok(kept)
 }
 
 /// Puts a copy in the place of a database of this number, whose log holds nothing, and says under which name another
@@ -293,7 +250,7 @@ fn put_in_place(
     part: &Part,
     database: &Pair,
     number: FileNumber,
-) -> Result<String, FileFault> {
+) -> Result<InPlace<String>, FileFault> {
     let there = done(fs::symlink_metadata(rt, database.file.as_str()))?;
     if number_of(&there) != number {
         return Err(FileFault::Unavailable);
@@ -308,7 +265,11 @@ fn put_in_place(
 
 /// Puts a copy in the place of a database that is there, and that nobody else may have meanwhile. What its log holds
 /// goes into its file before, so that it is whole until the other is in its place, and so is the copy that is kept.
-fn replace_there(rt: &HostRuntime, part: &Part, database: &Pair) -> Result<String, FileFault> {
+fn replace_there(
+    rt: &HostRuntime,
+    part: &Part,
+    database: &Pair,
+) -> Result<InPlace<String>, FileFault> {
     let path = database.file.as_str();
     if !done(is_database(rt, path))? {
         return Err(FileFault::Unavailable);
@@ -323,29 +284,84 @@ fn replace_there(rt: &HostRuntime, part: &Part, database: &Pair) -> Result<Strin
     outcome
 }
 
+/// A copy, and the path of a database that isn't there.
+#[derive(Clone, Copy)]
+struct Vacancy<'a> {
+    name: NewName<'a>,
+
+    /// The path of the log that would be taken for the copy's.
+    log: &'a str,
+}
+
+impl Making for Vacancy<'_> {
+    ghost use Rattle.std.specs.Prelude.{⊤};
+
+    type Number = FileNumber;
+
+    type Fault = FileFault;
+
+    // No contract can say what files hold.
+    ghost does = { λ _ _ _. ⊤ };
+
+    fn is_still_named(&mut self) -> Result<(), FileFault> {
+        self.name.is_still_named()
+    }
+}
+
+impl Naming for Vacancy<'_> {
+    fn give_name(&mut self) -> Result<(), FileFault> {
+        self.name.give_name()
+    }
+
+    fn sync_folder(&mut self) -> Result<(), FileFault> {
+        self.name.sync_folder()
+    }
+}
+
+impl Placing for Vacancy<'_> {
+    fn is_log_full(&mut self) -> Result<bool, FileFault> {
+        done(holds_any(self.name.rt, self.log))
+    }
+
+    fn is_log_held(&mut self) -> Result<bool, FileFault> {
+        Ok(is_held_by_any(self.name.rt, self.log)?)
+    }
+
+    fn remove_log(&mut self) -> Result<(), FileFault> {
+        done(remove(self.name.rt, self.log))
+    }
+
+    fn fault_of_place(&self) -> FileFault {
+        FileFault::Unavailable
+    }
+}
+
 /// Puts a copy where there is no database, nor a log that holds something or that somebody has.
-fn place_alone(rt: &HostRuntime, part: &Part, database: &Pair) -> Result<(), FileFault> {
-    if done(holds_any(rt, database.log.as_str()))? || is_held_by_any(rt, database.log.as_str())? {
-        return Err(FileFault::Unavailable);
-    }
-    done(remove(rt, database.log.as_str()))?;
-    match name_new(rt, part, database.file.as_str()) {
-        Err(FileFault::Taken) => Err(FileFault::Unavailable),
-        named => named,
-    }
+fn place_part(
+    rt: &HostRuntime,
+    part: &Part,
+    database: &Pair,
+) -> Result<InPlace<String>, FileFault> {
+    unless_taken(place_alone(&mut Vacancy {
+        name: NewName {
+            rt,
+            part,
+            to: database.file.as_str(),
+        },
+        log: database.log.as_str(),
+    }))
 }
 
 /// Puts a copy in the place of a database, or where there is none. It gives the name under which what was there is
 /// kept.
-fn replace(rt: &HostRuntime, part: &Part, database: &Pair) -> Result<Option<String>, FileFault> {
+fn replace(rt: &HostRuntime, part: &Part, database: &Pair) -> Result<InPlace<String>, FileFault> {
     if has_journal(rt, database.file.as_str())? {
         return Err(FileFault::Unavailable);
     }
     if done(is_there(rt, database.file.as_str()))? {
-        return Ok(Some(replace_there(rt, part, database)?));
+        return replace_there(rt, part, database);
     }
-    place_alone(rt, part, database)?;
-    Ok(None)
+    place_part(rt, part, database)
 }
 
 /// Puts a copy in the place of the database of a name.
@@ -353,7 +369,7 @@ fn replace_named(
     rt: &HostRuntime,
     part: &Part,
     database: &str,
-) -> Result<Option<String>, FileFault> {
+) -> Result<InPlace<String>, FileFault> {
     let place = pair_at(rt.alloc(), database)?;
     replace(rt, part, &place)
 }
@@ -364,7 +380,7 @@ fn replace_with_sums(
     part: &Part,
     database: &str,
     rows: u64,
-) -> Result<Option<String>, FileFault> {
+) -> Result<InPlace<String>, FileFault> {
     let other = new_copy(rt, database, Use::Part)?;
     let outcome = match copy_with_sums(rt, part, &other, rows) {
         Ok(()) => replace_named(rt, &other, database),
@@ -380,7 +396,7 @@ fn put_back(
     part: &Part,
     database: &str,
     rows: u64,
-) -> Result<Option<String>, FileFault> {
+) -> Result<InPlace<String>, FileFault> {
     match has_sums(rt, part.pair.file.as_str()) {
         Ok(true) => replace_named(rt, part, database),
         Ok(false) => replace_with_sums(rt, part, database, rows),
@@ -398,22 +414,36 @@ pub struct Restored {
     pub replaced: Option<String>,
 }
 
+impl Restoring for CopyOf<'_> {
+    type Kept = String;
+
+    fn put_back(&mut self, rows: u64) -> Result<InPlace<String>, CopyFault> {
+        at(Step::Target, put_back(self.rt, self.part, self.to, rows))
+    }
+}
+
 /// Makes a whole copy of the backup of a name, and puts it in the place of a database.
-fn bring_back(
+fn restore_part(
     rt: &HostRuntime,
     backup: &str,
     part: &Part,
     database: &str,
 ) -> Result<Restored, CopyFault> {
-    let rows = make_part(rt, backup, part, true)?;
-    let replaced = at(Step::Target, put_back(rt, part, database, rows))?;
+    let source = source_at(rt, backup)?;
+    let (rows, replaced) = bring_back(&mut CopyOf {
+        rt,
+        source: &source,
+        part,
+        is_served: true,
+        to: database,
+    })?;
     Ok(Restored { rows, replaced })
 }
 
 /// Puts the copy of a backup in the place of a database, by their names.
 fn restore_named(rt: &HostRuntime, backup: &str, database: &str) -> Result<Restored, CopyFault> {
     let part = at(Step::Begin, new_copy(rt, database, Use::Part))?;
-    let outcome = bring_back(rt, backup, &part, database);
+    let outcome = restore_part(rt, backup, &part, database);
     give_up(rt, &part);
     outcome
 }

@@ -1,16 +1,15 @@
 //! Whole copies of a database: a backup, also while it is served, and the tables of one that is looked at.
-//!
-//! A database is a file and the log beside it. Pages only go from the log to the file, and the log tells by its header
-//! when it was emptied. So the file and then the log are a whole copy if the header is the same before and after, and
-//! the log is that of whoever has the file.
 use crate::fault::{CopyFault, Step, at};
+use crate::naming::{give_name, keep_names};
 use crate::parts::{Pair, Part, Use, give_up, new_copy, pair_at};
 use crate::progress::{end_copied, tell_copied, tell_copied_whole};
-use acvp_causes::{Mark, cause_of_source, is_database, is_moved, is_whole, mark_of, name_of};
+use crate::rows::count_rows;
+use acvp_causes::{Mark, cause_of_source, is_database, is_moved, mark_of, name_of};
 use acvp_connections::{
     FileConnection, FileFault, FileNumber, Unopened, Watch, Watched, connect_there, copied, done,
     fault_of_cause, file_at, remove, settle_names,
 };
+use acvp_copying::{Copying, Half, Making, Naming, Seen, copy_whole};
 use acvp_store::{SqlTables, adopt};
 use sqlite::{Alter, Connection, FileFrom, FileStore, Wary};
 use sqlite_disk::Disk;
@@ -18,27 +17,11 @@ use std::alloc::{AllocGlobal, Global};
 use std::fs::{self, File};
 use std::io::{self, ErrorKind, Read, Seek};
 
-/// How often a copy is begun anew, if the log was emptied meanwhile.
-const TRIES: u32 = 100;
-
 /// How many bytes are copied at once.
 const PIECE: u64 = 67108864;
 
-/// What is seen of a database's files from outside.
-#[derive(Clone, Copy)]
-struct Seen {
-    /// Which file it is.
-    file: FileNumber,
-
-    /// Which file its log is, if there is one.
-    log: Option<FileNumber>,
-
-    /// The mark of the log: how it begins, and how many bytes it has.
-    mark: Mark,
-}
-
 /// What is seen of a database's files.
-fn looked_at(rt: &HostRuntime, pair: &Pair) -> io::Result<Seen> {
+fn look_at(rt: &HostRuntime, pair: &Pair) -> io::Result<Seen<FileNumber>> {
     let log = match file_at(rt, pair.log.as_str()) {
         Ok(log) => Some(log),
         Err(error) if error.kind() == ErrorKind::NotFound => None,
@@ -74,52 +57,18 @@ fn copy_pieces(rt: &HostRuntime, from: &File, to: &File) -> io::Result<()> {
     outcome
 }
 
-/// Copies a file into an open one, in the place of all that this holds. One that isn't there has an empty copy.
-pub(crate) fn copy_file(rt: &HostRuntime, from: &str, mut to: &File) -> io::Result<()> {
+/// Copies a file into an open one, in the place of all that this holds, and says whether it is there. One that isn't
+/// there has an empty copy.
+pub(crate) fn copy_file(rt: &HostRuntime, from: &str, mut to: &File) -> io::Result<bool> {
     to.set_len(0)?;
     to.rewind()?;
     let source = match File::open(rt, from) {
         Ok(source) => source,
-        Err(error) if error.kind() == ErrorKind::NotFound => return Ok(()),
+        Err(error) if error.kind() == ErrorKind::NotFound => return Ok(false),
         Err(error) => return Err(error),
     };
     copy_pieces(rt, &source, to)?;
-    to.sync_all()
-}
-
-/// Copies a database once, and says whether that is it, as it is at one moment between two changes. Whoever has the
-/// file must have the log, before and after.
-fn copy_once(rt: &HostRuntime, from: &Pair, to: &Part) -> io::Result<bool> {
-    let before = looked_at(rt, from)?;
-    let was_moved = is_moved(rt, from.file.as_str(), from.log.as_str())?;
-    copy_file(rt, from.file.as_str(), &to.file)?;
-    copy_file(rt, from.log.as_str(), &to.log)?;
-    let copy = mark_of(rt, to.pair.log.as_str())?;
-    let after = looked_at(rt, from)?;
-    let is_moved = was_moved || is_moved(rt, from.file.as_str(), from.log.as_str())?;
-    let is_same = before.file == after.file && before.log == after.log;
-    Ok(!is_moved && is_same && is_whole(&before.mark, &after.mark, &copy))
-}
-
-/// Copies a database, as it is at one moment between two changes.
-fn copy_pair(rt: &HostRuntime, from: &Pair, to: &Part) -> Result<(), CopyFault> {
-    for _ in 0..TRIES {
-        if at(Step::Copying, done(copy_once(rt, from, to)))? {
-            return Ok(());
-        }
-    }
-    at(Step::Source, Err(FileFault::Unavailable))
-}
-
-/// Copies the database of a name into the empty files of a copy, which still have their names then.
-pub(crate) fn copy_into(rt: &HostRuntime, from: &str, part: &Part) -> Result<(), CopyFault> {
-    settle_names(rt, from);
-    if let Some(because) = cause_of_source(rt, "", from) {
-        return at(Step::Source, Err(fault_of_cause(because.cause)));
-    }
-    let source = at(Step::Copying, pair_at(rt.alloc(), from))?;
-    copy_pair(rt, &source, part)?;
-    at(Step::Target, done(part.is_still_named(rt)))
+    Ok(true)
 }
 
 /// A connection to a database that nobody else has.
@@ -175,6 +124,173 @@ pub(crate) fn connection_to_part(
     part: &Part,
 ) -> Result<FileConnection<Wary>, FileFault> {
     connection_to(rt, part.pair.file.as_str())
+}
+
+/// Takes over tables that are to be served, which must be those of this version.
+fn if_known<S: Alter + Drop>(
+    alloc: Global,
+    connection: Connection<S>,
+    is_served: bool,
+) -> Result<Connection<S>, FileFault> {
+    if is_served {
+        with_tables(alloc, connection)
+    } else {
+        Ok(connection)
+    }
+}
+
+/// Says how many rows a copy has, and gives its connection back. If it is to be served, its tables must be those of
+/// this version.
+fn counted_if_known<S: Alter + Drop>(
+    alloc: Global,
+    connection: Connection<S>,
+    is_served: bool,
+) -> Result<(Connection<S>, u64), FileFault> {
+    let mut known = if_known(alloc, connection, is_served)?;
+    match count_rows(alloc, &mut known) {
+        Ok(count) => Ok((known, count)),
+        Err(fault) => Err(fault),
+    }
+}
+
+/// Has all that a copy's database and its log hold in the file alone, and says how many rows it has. If it is to be
+/// served, its tables must be those of this version.
+fn finish<D: Disk + Drop>(
+    rt: &HostRuntime,
+    connection: Connection<FileStore<D>>,
+    part: &Part,
+    is_served: bool,
+) -> Result<u64, FileFault> {
+    match counted_if_known(rt.alloc(), connection, is_served) {
+        Ok((counted, rows)) => match merge(rt, part, counted) {
+            Ok(()) => Ok(rows),
+            Err(fault) => Err(fault),
+        },
+        Err(fault) => Err(fault),
+    }
+}
+
+/// Makes one whole file of a copy and its log, and says how many rows it has.
+fn finish_part(rt: &HostRuntime, part: &Part, is_served: bool) -> Result<u64, FileFault> {
+    match connection_to_part(rt, part) {
+        Ok(connection) => finish(rt, connection, part, is_served),
+        Err(fault) => Err(fault),
+    }
+}
+
+/// A database, the copy that is made of it, and where the copy is to be.
+#[derive(Clone, Copy)]
+pub(crate) struct CopyOf<'a> {
+    pub(crate) rt: &'a HostRuntime,
+
+    /// The database.
+    pub(crate) source: &'a Pair,
+
+    /// The copy, under its first name.
+    pub(crate) part: &'a Part,
+
+    /// Whether it is to be served: its tables must be those of this version.
+    pub(crate) is_served: bool,
+
+    /// The path that it is to have.
+    pub(crate) to: &'a str,
+}
+
+impl Making for CopyOf<'_> {
+    ghost use Rattle.std.specs.Prelude.{⊤};
+
+    type Number = FileNumber;
+
+    type Fault = CopyFault;
+
+    // No contract can say what files hold.
+    ghost does = { λ _ _ _. ⊤ };
+
+    fn is_still_named(&mut self) -> Result<(), CopyFault> {
+        at(Step::Target, done(self.part.is_still_named(self.rt)))
+    }
+}
+
+impl Copying for CopyOf<'_> {
+    fn look(&mut self) -> Result<Seen<FileNumber>, CopyFault> {
+        at(Step::Copying, done(look_at(self.rt, self.source)))
+    }
+
+    fn are_apart(&mut self) -> Result<bool, CopyFault> {
+        let (file, log) = (self.source.file.as_str(), self.source.log.as_str());
+        match is_moved(self.rt, file, log) {
+            Ok(is_apart) => Ok(is_apart),
+            Err(error) => at(Step::Copying, Err(FileFault::from(error))),
+        }
+    }
+
+    fn copy(&mut self, half: Half) -> Result<bool, CopyFault> {
+        let outcome = match half {
+            Half::File => copy_file(self.rt, self.source.file.as_str(), &self.part.file),
+            Half::Log => copy_file(self.rt, self.source.log.as_str(), &self.part.log),
+        };
+        at(Step::Copying, done(outcome))
+    }
+
+    fn sync(&mut self, half: Half) -> Result<(), CopyFault> {
+        let outcome = match half {
+            Half::File => self.part.file.sync_all(),
+            Half::Log => self.part.log.sync_all(),
+        };
+        at(Step::Copying, done(outcome))
+    }
+
+    fn mark_of_copy(&mut self) -> Result<Mark, CopyFault> {
+        at(
+            Step::Copying,
+            done(mark_of(self.rt, self.part.pair.log.as_str())),
+        )
+    }
+
+    fn finish(&mut self) -> Result<u64, CopyFault> {
+        at(
+            Step::Content,
+            finish_part(self.rt, self.part, self.is_served),
+        )
+    }
+
+    fn fault_of_changes(&self) -> CopyFault {
+        CopyFault {
+            step: Step::Source,
+            fault: FileFault::Unavailable,
+        }
+    }
+}
+
+impl Naming for CopyOf<'_> {
+    fn give_name(&mut self) -> Result<(), CopyFault> {
+        at(Step::Target, give_name(self.rt, self.part, self.to))
+    }
+
+    fn sync_folder(&mut self) -> Result<(), CopyFault> {
+        at(Step::Target, done(keep_names(self.rt, self.to)))
+    }
+}
+
+/// The paths of the database of a name that is to be copied, if it can be.
+pub(crate) fn source_at(rt: &HostRuntime, from: &str) -> Result<Pair, CopyFault> {
+    settle_names(rt, from);
+    if let Some(because) = cause_of_source(rt, "", from) {
+        return at(Step::Source, Err(fault_of_cause(because.cause)));
+    }
+    at(Step::Copying, pair_at(rt.alloc(), from))
+}
+
+/// Copies the database of a name into the empty files of a copy, which still have their names then.
+fn copy_into(rt: &HostRuntime, from: &str, part: &Part) -> Result<(), CopyFault> {
+    let source = source_at(rt, from)?;
+    copy_whole(&mut CopyOf {
+        rt,
+        source: &source,
+        part,
+        is_served: false,
+        to: part.pair.file.as_str(),
+    })
 }
 
 /// The tables in a file.

@@ -4,6 +4,7 @@
 mod backups;
 mod copies;
 mod fault;
+mod naming;
 mod parts;
 mod privacy;
 mod progress;

@@ -1,7 +1,9 @@
 //! Files of text that are made beside a database, or elsewhere: of keys, or of a secret.
-use crate::backups::{may_be_made, may_have_path, name_new};
+use crate::backups::{may_be_made, may_have_path};
+use crate::naming::NewName;
 use crate::parts::{Part, Use, give_up, new_copy, remove_left};
 use acvp_connections::{FileFault, done};
+use acvp_copying::name_new;
 use std::io::{self, Write};
 
 /// Writes a text to the empty file of a copy, and brings it to the disk.
@@ -14,7 +16,7 @@ fn write_text(part: &Part, text: &[u8]) -> io::Result<()> {
 /// Writes a text, and gives its file a name.
 fn write_named(rt: &HostRuntime, part: &Part, path: &str, text: &[u8]) -> Result<(), FileFault> {
     done(write_text(part, text))?;
-    name_new(rt, part, path)
+    name_new(&mut NewName { rt, part, to: path })
 }
 
 /// Makes a file of a text, whole or not at all, that its owner alone may read. Another file isn't written over, and

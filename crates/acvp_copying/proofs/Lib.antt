@@ -1,0 +1,2 @@
+mod DeedLemmas
+mod ReplacementLemmas
