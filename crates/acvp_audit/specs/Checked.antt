@@ -110,8 +110,8 @@ is_damage_beyond_kept (damage.Stray u t number) = false
 is_damage_beyond_kept (damage.Broken u found) = is_beyond_kept found.wrong
 
 -- What is told is so of the rows. Whatever content they stand for, with texts of capabilities in UTF-8, no run leaves
--- it; and unless what is wrong is with a certification, a registration or an epoch alone, it isn't kept. And what is
--- told is so of the content, where each registration that was asked for is of one of the three kinds.
+-- it; and unless what is wrong is with a certification, a registration, an epoch or an answer alone, it isn't kept. And
+-- what is told is so of the content, where each registration that was asked for is of one of the three kinds.
 pub record IsRefuted (grades : Bool) (seeds : List (List ℕ)) (layout : Layout) (trees : Trees) (found : Damage)
     : Type 0 where
   pub so : AreInTrees layout trees → IsDamagedIn grades seeds layout trees found

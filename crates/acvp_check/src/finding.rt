@@ -62,7 +62,7 @@ pub enum Wrong {
     /// The session may not be certified, and the request that it names isn't rejected: it hasn't passed, is a sample or
     /// is cancelled.
     NotCertifiable,
-    /// The certification's session names another, or none; if it is rejected, no later one.
+    /// The certification's session names another, or none; if it is rejected, neither it nor a later one.
     NotLast,
     /// The object that its approval registered isn't the one that it asks for.
     NotAsAsked,
