@@ -4,7 +4,6 @@
 //! place is dear to prove.
 
 use crate::connections::{Connected, connects};
-use crate::scripts::{Scripted, runs};
 use acvp_store::{SqlTables, create};
 use acvp_tables::{ListTables, Tables};
 use sqlite::{Connection, MemStore};
@@ -13,19 +12,15 @@ use std::process::Abort;
 
 /// What is done with new tables.
 #[derive(Clone, Copy)]
-pub(crate) enum Deed<'a> {
+pub(crate) enum Deed {
     /// Connections are served.
     Connected(Connected),
-
-    /// Scripts are run.
-    Scripted(Scripted<'a>),
 }
 
 /// Does this.
-fn does<T: Tables + Drop>(rt: &impl Abort, alloc: Global, tables: T, deed: Deed<'_>) {
+fn does<T: Tables + Drop>(rt: &impl Abort, alloc: Global, tables: T, deed: Deed) {
     match deed {
         Deed::Connected(connected) => connects(rt, alloc, tables, connected),
-        Deed::Scripted(scripted) => runs(rt, alloc, tables, scripted),
     }
 }
 
@@ -39,17 +34,17 @@ fn new_tables(rt: &impl Abort, alloc: Global) -> SqlTables<MemStore> {
 }
 
 /// Does this over a new database in memory.
-pub(crate) fn over_a_database(rt: &impl Abort, alloc: Global, deed: Deed<'_>) {
+pub(crate) fn over_a_database(rt: &impl Abort, alloc: Global, deed: Deed) {
     does(rt, alloc, new_tables(rt, alloc), deed);
 }
 
 /// Does this over empty lists.
-pub(crate) fn over_lists(rt: &impl Abort, alloc: Global, deed: Deed<'_>) {
+pub(crate) fn over_lists(rt: &impl Abort, alloc: Global, deed: Deed) {
     does(rt, alloc, ListTables::new(alloc), deed);
 }
 
 /// Does this over both.
-pub(crate) fn over_both(rt: &impl Abort, alloc: Global, deed: Deed<'_>) {
+pub(crate) fn over_both(rt: &impl Abort, alloc: Global, deed: Deed) {
     over_lists(rt, alloc, deed);
     over_a_database(rt, alloc, deed);
 }

@@ -2,7 +2,7 @@
 
 use acvp_desk::{Desk, KeyRing, Keys, NewFault, Order, OrderReply, Seeds, order_on};
 use acvp_http::{Reply, Routes, handle_bytes};
-use acvp_tables::{AccountRow, Tables};
+use acvp_tables::Tables;
 use std::alloc::Global;
 use std::process::Abort;
 
@@ -72,10 +72,4 @@ pub(crate) fn answer_in_bytes<T: Tables>(
     bytes: &[u8],
 ) -> Reply {
     handle_bytes(routes, desk, moment, bytes)
-}
-
-/// The account of a number.
-pub(crate) fn account_of<T: Tables>(rt: &impl Abort, tables: &mut T, number: u16) -> AccountRow {
-    let account = tables.account(number).ok().expect(rt, "a look-up");
-    account.expect(rt, "an account")
 }
