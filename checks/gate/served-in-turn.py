@@ -126,7 +126,7 @@ def gone_before_its_reply(it):
 def unsent(it):
     """A client that is gone before its reply: the line says so. One that only says no more gets its reply."""
     expect("a client that is gone before its reply", any(gone_before_its_reply(it) for _ in range(20)), True)
-    expect("the line of a reply that nobody took", it.lines(1), [("-", "Expected", "-", "-", "unsent")])
+    expect("the line of a reply that nobody took", it.lines(1), [("1", "Expected", "200", "ok", "unsent")])
     dear, vendor = it.dear(), request("POST", "/vendors", it.token(2), {"name": "a"})
     with it.lab.connect() as busy, it.lab.connect() as client:
         busy.sendall(dear)
