@@ -1,5 +1,5 @@
 -- Lemmas on deeds that are done one after another.
-use Rattle.std.proofs.Common.{◌≡◌, ◌↔◌, Bool, true, false, IsTrue, MatchBool, List, [], ◌∷◌, ◌++◌}
+use Rattle.std.proofs.Common.{◌≡◌, ◌⊎◌, ◌↔◌, Bool, true, false, IsTrue, MatchBool, List, [], ◌∷◌, ◌++◌}
 use Rattle.std.proofs.Common.{IfOk, Result, Ok, Err, inl, inr, refl, ap, append_assoc, ◌∙◌}
 use Rattle.std.proofs.lemmas.List.Elements.{All-append, All-cons, All-nil}
 use Rattle.std.proofs.lemmas.List.{append-nil}
@@ -18,6 +18,12 @@ module _ {S N : Type 0} (does : S → Deed N → S → Type 0) where
   follows_both (deed ∷ deeds) more old mid new (next, done, rest) after =
       (next, done, follows_both deeds more next mid new rest after)
 
+-- what isn't there is the log
+pub not_there : (is_there : Bool) (half : Half) → is_there ≡ false → (is_there ≡ true) ⊎ (half ≡ Log) → half ≡ Log
+not_there true half gone told = absurd (cc)
+not_there false half gone (inl there) = absurd (cc)
+not_there false half gone (inr is) = is
+
 module _ {N : Type 0} where
   -- one more deed of a try
   tries_after : (deed : Deed N) (deeds : List (Deed N)) → IsOfCopying deed → OnlyTries deeds
@@ -28,7 +34,7 @@ module _ {N : Type 0} where
   half_tries : (half : Half) (deeds : List (Deed N)) → IsHalfCopied half deeds → OnlyTries deeds
   half_tries half deeds (inl is) = rw is (tries_after (Copied half true) (Synced half ∷ []) (tt {0})
       (tries_after (Synced half) [] (tt {0}) (All-nil IsOfCopying)))
-  half_tries half deeds (inr is) = rw is (tries_after (Copied half false) [] (tt {0}) (All-nil IsOfCopying))
+  half_tries half deeds (inr (is_log, is)) = rw is (tries_after (Copied half false) [] (tt {0}) (All-nil IsOfCopying))
 
   -- what is done of a copy
   abbrev pub attempt : Seen N → Bool → List (Deed N) → List (Deed N) → Mark → Seen N → List (Deed N) → List (Deed N)

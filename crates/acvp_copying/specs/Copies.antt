@@ -10,9 +10,10 @@ use Rattle.acvp_copying.specs.declared.copying.Half.TheVariants.{File, Log}
 use Rattle.acvp_copying.specs.declared.copying.Seen.{Seen}
 
 module _ {N : Type 0} where
-  -- one of a database's files was copied, and the copy brought to the disk; or it wasn't there
+  -- one of a database's files was copied, and the copy brought to the disk; or it is the log, and wasn't there
   abbrev pub IsHalfCopied : Half → List (Deed N) → Type 0
-  IsHalfCopied half deeds = (deeds ≡ Copied half true ∷ Synced half ∷ []) ⊎ (deeds ≡ Copied half false ∷ [])
+  IsHalfCopied half deeds = (deeds ≡ Copied half true ∷ Synced half ∷ [])
+      ⊎ ((half ≡ Log) × (deeds ≡ Copied half false ∷ []))
 
   -- it touches nothing but what the copy holds
   abbrev pub IsOfCopying : Deed N → Type 0

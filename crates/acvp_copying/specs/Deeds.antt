@@ -26,9 +26,8 @@ pub data Deed (N : Type 0) : Type 0 where
   PutBack : ℕ → Deed N
   -- the names of the folder were brought to the disk
   FolderSynced : Deed N
-  -- the database that is to be replaced was copied in the place of all that the other copy held; it was there, or that
-  -- copy is empty
-  OldCopied : Bool → Deed N
+  -- the database that is to be replaced was copied in the place of all that the other copy held
+  OldCopied : Deed N
   -- the copy of it was brought to the disk
   OldSynced : Deed N
   -- the copy of it got its owner, its group and its mode

@@ -1,13 +1,13 @@
 -- Which deeds put a copy in the place of a database, or where there is none.
-use Rattle.std.specs.Prelude.{◌≡◌, ◌⊎◌, true, false, List, [], ◌∷◌, ◌++◌, Option, Some, None}
+use Rattle.std.specs.Prelude.{◌≡◌, true, false, List, [], ◌∷◌, ◌++◌, Option, Some, None}
 use Rattle.acvp_copying.specs.Deeds.{Deed, StillNamed, Named, FolderSynced, OldCopied, OldSynced, AccessKept}
 use Rattle.acvp_copying.specs.Deeds.{StillThere, LogFull, LogHeld, LogRemoved, Replaced}
 use Rattle.acvp_copying.specs.declared.replacing.InPlace.{InPlace}
 
 module _ {N : Type 0} where
-  -- the database that is to be replaced was copied, and the copy brought to the disk; or it wasn't there
+  -- the database that is to be replaced was copied, and the copy brought to the disk
   abbrev pub IsOldCopied : List (Deed N) → Type 0
-  IsOldCopied deeds = (deeds ≡ OldCopied true ∷ OldSynced ∷ []) ⊎ (deeds ≡ OldCopied false ∷ [])
+  IsOldCopied deeds = deeds ≡ OldCopied ∷ OldSynced ∷ []
 
   -- it was copied, and the copy, with the same access, was given the name under which it is kept, on the disk
   abbrev pub IsKept : List (Deed N) → Type 0

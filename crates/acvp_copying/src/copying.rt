@@ -38,7 +38,7 @@ pub struct Seen<N> {
 
 /// A database, and the copy that is made of it.
 pub trait Copying: Making<Number: PartialEq + Copy> {
-    ghost use Rattle.std.specs.Prelude.{IfOk};
+    ghost use Rattle.std.specs.Prelude.{◌≡◌, ◌⊎◌, true, IfOk};
     ghost use Rattle.acvp_copying.specs.Deeds.{Apart, Copied, Finished, Looked, Marked, Synced};
 
     /// Looks at the database's files.
@@ -49,10 +49,11 @@ pub trait Copying: Making<Number: PartialEq + Copy> {
     fn are_apart(&mut self) -> Result<bool, Self::Fault>
         ensures { IfOk result (λ is_apart. Self.does self.old (Apart is_apart) self.new) };
 
-    /// Copies one of the database's files in the place of all that its copy holds, and says whether it is there. One
-    /// that isn't there has an empty copy.
+    /// Copies one of the database's files in the place of all that its copy holds, and says whether it is there. A log
+    /// that isn't there has an empty copy; a database that isn't there is a fault.
     fn copy(&mut self, half: Half) -> Result<bool, Self::Fault>
-        ensures { IfOk result (λ is_there. Self.does self.old (Copied half is_there) self.new) };
+        ensures copied { IfOk result (λ is_there. Self.does self.old (Copied half is_there) self.new) }
+        ensures there { IfOk result (λ is_there. (is_there ≡ true) ⊎ (half ≡ Half.Log)) };
 
     /// Brings the copy of one of the files to the disk.
     fn sync(&mut self, half: Half) -> Result<(), Self::Fault>

@@ -33,10 +33,9 @@ pub trait Replacing: Placing {
     ghost use Rattle.std.specs.Prelude.{IfOk};
     ghost use Rattle.acvp_copying.specs.Deeds.{AccessKept, OldCopied, OldSynced, Replaced, StillThere};
 
-    /// Copies the database in the place of all that the other copy holds, and says whether it is there. The copy of one
-    /// that isn't there is empty.
-    fn copy_old(&mut self) -> Result<bool, Self::Fault>
-        ensures { IfOk result (λ is_there. Self.does self.old (OldCopied is_there) self.new) };
+    /// Copies the database in the place of all that the other copy holds. One that isn't there is a fault.
+    fn copy_old(&mut self) -> Result<(), Self::Fault>
+        ensures { IfOk result (λ done. Self.does self.old OldCopied self.new) };
 
     /// Brings the copy of the database to the disk.
     fn sync_old(&mut self) -> Result<(), Self::Fault>
@@ -91,10 +90,8 @@ impl InPlace<()> {
 fn copy_old<F: Replacing>(files: &mut F) -> Result<(), F::Fault>
     ensures { IfOk result (λ done. Did F.does IsOldCopied files.old files.new) }
 {
-    if files.copy_old()? {
-        files.sync_old()?;
-    }
-    Ok(())
+    files.copy_old()?;
+    files.sync_old()
 }
 
 /// Copies a database that is to be replaced, and gives the copy a name. Its log holds nothing. The copy has its owner,

@@ -1,5 +1,5 @@
 //! Backups of a database, and the way back from one.
-use crate::copies::{CopyOf, connection_to, copy_file, source_at};
+use crate::copies::{CopyOf, connection_to, copy_there, source_at};
 use crate::fault::{CopyFault, Step, at};
 use crate::naming::{NewName, give_name, keep_names};
 use crate::parts::{Pair, Part, Use, give_up, has_name, new_copy, pair_at, replaced_at};
@@ -180,8 +180,8 @@ impl Placing for Replacement<'_> {
 }
 
 impl Replacing for Replacement<'_> {
-    fn copy_old(&mut self) -> Result<bool, FileFault> {
-        done(copy_file(self.rt, self.database.file.as_str(), &self.old.file))
+    fn copy_old(&mut self) -> Result<(), FileFault> {
+        done(copy_there(self.rt, self.database.file.as_str(), &self.old.file))
     }
 
     fn sync_old(&mut self) -> Result<(), FileFault> {

@@ -71,6 +71,15 @@ pub(crate) fn copy_file(rt: &HostRuntime, from: &str, mut to: &File) -> io::Resu
     Ok(true)
 }
 
+/// The same of a file that must be there.
+pub(crate) fn copy_there(rt: &HostRuntime, from: &str, to: &File) -> io::Result<()> {
+    if copy_file(rt, from, to)? {
+        Ok(())
+    } else {
+        Err(ErrorKind::NotFound.into())
+    }
+}
+
 /// A connection to a database that nobody else has.
 pub(crate) fn connection_to(
     rt: &HostRuntime,
@@ -225,11 +234,17 @@ impl Copying for CopyOf<'_> {
     }
 
     fn copy(&mut self, half: Half) -> Result<bool, CopyFault> {
-        let outcome = match half {
-            Half::File => copy_file(self.rt, self.source.file.as_str(), &self.part.file),
-            Half::Log => copy_file(self.rt, self.source.log.as_str(), &self.part.log),
-        };
-        at(Step::Copying, done(outcome))
+        match half {
+            Half::File => {
+                let outcome = copy_there(self.rt, self.source.file.as_str(), &self.part.file);
+                at(Step::Copying, done(outcome))?;
+                Ok(true)
+            }
+            Half::Log => {
+                let outcome = copy_file(self.rt, self.source.log.as_str(), &self.part.log);
+                at(Step::Copying, done(outcome))
+            }
+        }
     }
 
     fn sync(&mut self, half: Half) -> Result<(), CopyFault> {
