@@ -1,11 +1,12 @@
 """A database under other names, and its files in a folder that others can write.
 
-    names-and-owners-of-files.py PROGRAM SLOW_LOCK NO_LINKS
+    names-and-owners-of-files.py PROGRAM SLOW_LOCK NO_LINKS LOST_FILE
 
-SLOW_LOCK and NO_LINKS are libraries that are preloaded into the program: the one holds it up before it locks a file, the
-other lets it make no second name."""
+The last three are libraries that are preloaded into the program: the first holds it up before it locks a file, the second
+lets it make no second name, and the third fails one of its opens of a file."""
 import contextlib
 import fcntl
+import itertools
 import os
 import shutil
 import signal
@@ -17,7 +18,7 @@ import sys
 import tempfile
 import time
 
-from laboratory import Laboratory, expect, free_port, rows_of
+from laboratory import Laboratory, expect, free_port, rows_of, rows_with_log
 import laboratory
 
 NOBODY = 65534
@@ -709,6 +710,41 @@ def without_links(lab, no_links):
     expect("what is left of copies", copies(lab), [])
 
 
+def lost_each_time(lab, lost_file, *args):
+    """Runs a command again and again; each time the database isn't there at another of the moments at which the command opens it."""
+    mark = lab.path("mark")
+    for place in itertools.count():
+        environment = {**os.environ, "LD_PRELOAD": lost_file, "LOST_FILE": lab.db, "LOST_PLACE": str(place), "LOST_MARK": mark}
+        done = lab.run(*args, env=environment)
+        if not os.path.exists(mark):
+            expect(f"whether {args[0]} opens the database", place > 0, True)
+            return
+        os.remove(mark)
+        yield done
+
+
+def lost_meanwhile(lab, lost_file):
+    """If the database isn't there at a moment, and is back at the next, its records are copied, or the command is unavailable."""
+    lab.add(1)
+    lab.backs_up()
+    rows, to = rows_of(lab.path("backup.db")), lab.path("other.db")
+    for status, output, faults in lost_each_time(lab, lost_file, "backup", "--db", lab.db, "--to", to):
+        if status == 0:
+            expect("a backup", (output, faults, rows_of(to)), (f"backed up: {rows} rows\n", "", rows))
+            os.remove(to)
+        else:
+            expect("no backup", (status, output, faults, os.path.exists(to)), (1, "", "fault: unavailable\n", False))
+    for status, output, faults in lost_each_time(lab, lost_file, "restore", "--from", lab.path("backup.db"), "--db", lab.db):
+        if status == 0:
+            kept = output.splitlines()[2].removeprefix("what was there is kept: ")
+            expect("what a restore keeps", rows_with_log(kept), rows)
+            os.remove(kept)
+        else:
+            expect("no restore", (status, output, faults), (1, "", "fault: unavailable\n"))
+        expect("the rows of the database", rows_with_log(lab.db), rows)
+        expect("what is kept", [name for name in os.listdir(lab.folder) if "-replaced-" in name], [])
+
+
 def copies(lab):
     return sorted(name for name in os.listdir(lab.folder) if "-part-" in name or "-look-" in name)
 
@@ -878,11 +914,12 @@ def other_locks(lab):
 
 
 def main():
-    program, slow_lock, no_links = (os.path.abspath(path) for path in sys.argv[1:])
+    program, slow_lock, no_links, lost_file = (os.path.abspath(path) for path in sys.argv[1:])
     os.umask(0o077)
     began = time.time()
     parts = [(links,), (hard_links,), (mounts,), (moved_while_serving,), (journals,), (restore_beside_a_start, slow_lock),
-             (foreign_neighbours,), (foreign_texts,), (kept_owner,), (without_links, no_links), (left_copies, slow_lock)]
+             (foreign_neighbours,), (foreign_texts,), (kept_owner,), (without_links, no_links), (lost_meanwhile, lost_file),
+             (left_copies, slow_lock)]
     parts += [(left_beside,), (renamed_meanwhile, slow_lock), (planted,), (without_proc,), (same_numbers,), (names_of_neighbours,),
               (second_names,), (blamed,), (empty_files,), (locked_while_taken_away, slow_lock), (begun_anew, slow_lock),
               (other_locks,)]
