@@ -1,11 +1,15 @@
 """What is said to be done is on the disk by then: changes before their replies, copies before they get a name, names
-before a command prints that it is done. And a copy that is made while the log is emptied is whole all the same.
+before a command prints that it is done. And a copy that is made while the log is emptied is whole all the same. If the
+disk fails at a call, nothing is lost.
 
-    what-reaches-the-disk.py PROGRAM TRACE
+    what-reaches-the-disk.py PROGRAM TRACE FAIL
 
-TRACE is the library of trace_files.c, which writes down what the program does with its files."""
+TRACE is the library of trace_files.c, which writes down what the program does with its files. FAIL is that of
+fail_call.c, with which one of its calls fails."""
 import contextlib
+import itertools
 import os
+import shutil
 import sqlite3
 import subprocess
 import sys
@@ -192,11 +196,93 @@ def emptied_meanwhile(it):
             expect("the session in the backup", there.fetchone(), (1,))
 
 
+def records(path):
+    """All rows of a database and the log beside it, as SQLite reads a copy of them."""
+    with tempfile.TemporaryDirectory() as folder:
+        copy = os.path.join(folder, "copy.db")
+        for end in ("", "-wal"):
+            if os.path.exists(path + end):
+                shutil.copy(path + end, copy + end)
+        with contextlib.closing(sqlite3.connect(copy)) as connection:
+            expect(f"whether {path} is whole", connection.execute("PRAGMA integrity_check").fetchall(), [("ok",)])
+            return "\n".join(connection.iterdump())
+
+
+def failing(it, *args):
+    """Runs a command again and again over the same files; each time another of its calls fails, whose name comes first.
+    It ends at the first place where none does."""
+    lab = it.lab
+    mark, begun = lab.path("mark"), os.path.join(it.aside, "begun")
+    shutil.copytree(lab.folder, begun)
+    for number in itertools.count():
+        names = {"LD_PRELOAD": it.failing, "FAIL_PLACE": str(number), "FAIL_MARK": mark}
+        done = lab.run(*args, env={**os.environ, **names})
+        if not os.path.exists(mark):
+            expect(f"how {args[0]} ends where no call fails", (done[0], done[2]), (0, ""))
+            expect(f"whether {args[0]} writes", number > 10, True)
+            shutil.rmtree(begun)
+            return
+        with open(mark) as file:
+            call = file.read()
+        yield call, f"{args[0]}, whose call {number}, {call}, fails", done
+        for name in os.listdir(lab.folder):
+            os.remove(lab.path(name))
+        for name in os.listdir(begun):
+            shutil.copy2(os.path.join(begun, name), lab.path(name))
+
+
+def each_call_fails(it):
+    """Whatever call of a backup or a restore the disk fails, the records of before are still there, in the database or in
+    a copy that is kept, and each file that has a name is whole. Only a file that can't be taken away may be left without
+    a fault. The log holds records, since the server that wrote them was killed."""
+    lab = it.lab
+    lab.does("ready", "init", "--db", lab.db)
+    lab.add(1)
+    lab.backs_up()
+    lab.serve()
+    token = lab.token(1)
+    for number in range(3):
+        lab.must("POST", "/vendors", token, {"name": f"vendor {number}"})
+    lab.kill()
+    os.remove(lab.db + "-orders")
+    expect("whether the log holds records", os.path.getsize(lab.db + "-wal") > 4096, True)
+    before, earlier, to = records(lab.db), records(lab.path("backup.db")), lab.path("other.db")
+    expect("records that the backup lacks", before != earlier, True)
+    with tempfile.TemporaryDirectory() as it.aside:
+        for call, what, (status, output, faults) in failing(it, "backup", "--db", lab.db, "--to", to):
+            if status == 0:
+                expect(f"the line of the {what}", (call, output.partition(":")[0], faults), ("unlink", "backed up", ""))
+            else:
+                expect(f"the fault of the {what}", (status, output, faults), (1, "", "fault: unavailable\n"))
+            expect(f"whether the {what} is there", os.path.exists(to) or status == 1, True)
+            if os.path.exists(to):
+                expect(f"whether the records are in the {what}", records(to) == before, True)
+            expect(f"whether the records are in the database after the {what}", records(lab.db) == before, True)
+        os.remove(to)
+        ends = set()
+        for call, what, (status, output, faults) in failing(it, "restore", "--from", lab.path("backup.db"), "--db", lab.db):
+            found = records(lab.db)
+            kept = [records(lab.path(name)) for name in os.listdir(lab.folder) if "-replaced-" in name]
+            ends.add((status, found == earlier, len(kept)))
+            if status == 0:
+                expect(f"the line of the {what}", (call, output.partition("\n")[0], faults), ("unlink", "restored", ""))
+            else:
+                expect(f"the fault of the {what}", (status, output, faults), (1, "", "fault: unavailable\n"))
+            expect(f"whether the database after the {what} is one of the two", found in (before, earlier), True)
+            expect(f"whether what the {what} keeps is whole", all(it == before for it in kept), True)
+            expect(f"whether the records of before are there after the {what}", found == before or len(kept) == 1, True)
+            expect(f"whether a {what} that is done replaced the database", found == earlier or status == 1, True)
+            expect(f"whether the backup is as it was after the {what}", records(lab.path("backup.db")) == earlier, True)
+        expect("whether a failing call left the database, and one behind the rename didn't", {(1, False, 0), (1, True, 1)} <= ends, True)
+        expect("whether the last restore is done", records(lab.db) == earlier, True)
+
+
 def main():
-    program, library = map(os.path.abspath, sys.argv[1:])
-    for part in (copies, texts, replies, emptied_meanwhile):
+    program, library, failing_library = map(os.path.abspath, sys.argv[1:])
+    for part in (copies, texts, replies, emptied_meanwhile, each_call_fails):
         with tempfile.TemporaryDirectory() as folder:
             it = Traced(program, folder, library)
+            it.failing = failing_library
             try:
                 part(it)
             finally:
