@@ -1,0 +1,189 @@
+"""No function below the command line makes up that memory ran out or that the store refused, so a reply is `unavailable`
+only for a cause: each place of the sources that makes such a value stands where an error was met, or it is one of the
+places below, each with its condition.
+
+    refusals-have-a-cause.py [--list]
+
+With --list it prints what it finds. It reads text, so code that is written to fool it can; then it tries itself on wrong
+bodies, each of which it has to find."""
+import collections
+import glob
+import os
+import re
+import sys
+
+TOP = os.path.join(os.path.dirname(os.path.abspath(__file__)), "..", "..")
+CRATES = ("mac", "token", "policy", "caps", "gen", "answers", "registry", "tables", "json", "store", "desk", "http")
+VARIANTS = {"Rule": "Unavailable", "OrderReply": "Unavailable", "StoreFault": "Memory|Refused", "AdoptFault": "Memory|Refused",
+            "NewFault": "Memory|Store", "TokenFault": "Memory", "BodyFault": "Memory", "CapFault": "Memory", "RegFault": "Memory",
+            "ReceiveFault": "Memory", "ScriptFault": "Memory"}
+NAMED = "|".join(f"{enum}::(?:{names})" for enum, names in VARIANTS.items())
+# a value of it, and not the name of its type
+MADE = re.compile(rf"\b(?:{NAMED}|Self::(?:Memory|Refused|Unavailable))\b|(?<!: )(?<![\w:<])AllocError(?=\s*(?:[),;}}{{]|\Z))")
+# an arm for an error, or a block behind one
+ERROR = re.compile(rf"(?:Ok\()?Err\(|(?:{NAMED})\b(?: \| (?:{NAMED}))*$")
+BEHIND = re.compile(r"\blet (?:mut )?\(?(?:Ok|Some\(Ok)\(.*= .*else$|\.is_err\(\)$|^Err\(.*=>$|^fn from\(_\w*: Alloc(?:Error|Failed<T>)\) -> \w+$")
+
+# What stands for nothing: rows, texts and numbers that no run leaves, a database in the midst of a transaction.
+PLACES = """
+store counts given_since: None
+store fault fault_of: Error::SqliteFailure(ErrorCode::OutOfMemory)
+store fault fault_of: _
+store objects kept_object: else
+store pages single: if rows.len() > 1
+store set_ranges graded_by: _
+store set_ranges graded_of: _
+store set_texts capability_of: let Some(text) = &column.text else
+store sets given_disposition: _
+store sets judged_disposition: _
+store sets whole_summary: if !keeps_answers(&set)
+store sets epoch_in: Ok(None)
+store sets find_sets: if 92233720368547757 < session
+store sets run: let Some(disposition) = kept_disposition(self.graded.disposition()) else
+store sets run: if 92233720368547757 < session.number
+store shown truth: _
+store shown fitting: else
+store shown one: if rows.len() > 1
+store store create: if !connection.is_autocommit()
+store store create: if !is_empty(&connection)
+store store migrated_in_memory: if !connection.is_autocommit() || !is_empty(&connection)
+store store adopt: if !connection.is_autocommit()
+store store migrate: if !connection.is_autocommit()
+store summaries registered_kind: _
+store summaries purpose: Some(_)
+store summaries certification: let Some(module) = linked(&value, "", Kind::Module) else
+store summaries certification: let Some(environment) = linked(&value, "", Kind::Environment) else
+store summaries certification: let Some(session) = number_at(&value, "") else
+store summaries certification: else
+store summaries status: _
+store work commit: if !conn.is_autocommit()
+desk find submission: let Some(row) = rows.session else
+desk find submission: let Some(others) = row.passed.checked_sub(one_if_passed(set.disposition)) else
+desk listing listed_shown: if row.created >= END_OF_MOMENTS
+desk order approve: if !sound
+desk registry draft_object: let Some(row) = row else
+desk registry draft_request: let Some(row) = row else
+desk session session_shown: if facts.created >= END_OF_MOMENTS
+desk session draft_results: if facts.created >= END_OF_MOMENTS
+desk set told_results: if created >= END_OF_MOMENTS
+desk set draft_made: if epoch > cache.seeds().newest()
+desk set draft_set: SetPlace::Made(_, None) | SetPlace::Submit(None) | SetPlace::Resubmit(None) =>
+desk submit graded_by: if epoch > cache.seeds().newest()
+desk submit draft_answers: let Some(kept) = kept_answers(session, number, others, graded) else
+http reply is_unavailable: pub fn is_unavailable(&self) -> bool
+"""
+# Wrong bodies: a file, what stands there, and what is put before it or in its place. The contracts allow the first five.
+WRONG = [
+    ("desk/src/find.rt", "    match *wish {\n        Wish::Session(session, SessionWish::Results) => tables",
+     "    if tables.session(7)?.is_some() {\n        return Err(StoreFault::Refused);\n    }\n"),
+    ("desk/src/algorithm.rt", "    let Some(algorithm) = algorithm_at(number) else {", "    if number > 12 {\n        return Err(Rule::Unavailable);\n    }\n"),
+    ("tables/src/list.rt", "        Ok(first_shown(&self.sessions,", "        if self.sessions.len() > 3 {\n            return Err(StoreFault::Memory);\n        }\n"),
+    ("http/src/receiving.rt", "    match read_byte(reader, limit)? {", "    if bytes.len() == 500 {\n        return Err(ReceiveFault::Memory);\n    }\n"),
+    ("http/src/running.rt", "    run_turns(alloc, routes, desk, reader, writer)", "    return Err(ScriptFault::Memory);\n"),
+    ("desk/src/set.rt", "    let Ok(mut entry) = cache.take(", "    Err::<(), AllocError>(AllocError)?;\n"),
+    ("desk/src/set.rt", "\nuse crate::", "\nuse acvp_tables::StoreFault as Other;"),
+    ("http/src/reply.rt", "\nuse ", "\nuse acvp_policy::Rule::*;"),
+]
+
+
+def code_of(text):
+    """The code without comments, and with empty texts, over as many lines."""
+    def blank(found):
+        return '""' + "\n" * found[0].count("\n")
+    text = re.sub(r'b?r#"(?:.|\n)*?"#', blank, text)
+    text = re.sub(r'"(?:\\(?:.|\n)|[^"\\])*"', blank, text)
+    text = re.sub(r"//[^\n]*", "", text)
+    text = re.sub(r"b?'(?:\\.|[^'\\\n])'", "0", text)
+    # contracts tell of values, and make none
+    return re.sub(r"\b(?:ensures|requires)\b[^{;]*\{(?:[^{}]|\{(?:[^{}]|\{[^{}]*\})*\})*\}", "", text)
+
+
+def is_pattern(code, place):
+    """Whether what ends at this place is a part of a pattern: an arrow or an equals sign comes behind it first."""
+    depth = 0
+    for at in range(place, len(code)):
+        if code[at] in "([{":
+            if code[at] == "{" and depth <= 0:
+                return False
+            depth += 1
+        elif code[at] in ")]":
+            depth -= 1
+        elif code[at] in "};" or code[at] == "," and depth <= 0:
+            return False
+        elif code[at] == "=" and code[at - 1] not in "=!<>" and code[at + 1] != "=":
+            return True
+    return False
+
+
+def led_to(code, place):
+    """What leads to the expression at this place: an arm's pattern, or the head of its block."""
+    depth = 0
+    for at in range(place - 1, 0, -1):
+        if code[at] in ")]}":
+            depth += 1
+        elif code[at] in "([" or (code[at] == "{" and depth > 0):
+            depth -= 1
+        elif code[at] == "{" or (code[at - 1:at + 1] == "=>" and depth <= 0):
+            return " ".join(head_before(code, at if code[at] == "{" else at - 1).split())
+    return ""
+
+
+def head_before(code, place):
+    depth = 0
+    for at in range(place - 1, -1, -1):
+        if code[at] in ")]":
+            depth += 1
+        elif code[at] in "([":
+            depth -= 1
+        if depth == 0 and code[at] in "{};" or depth <= 0 and code[at] == ",":
+            return code[at + 1:place]
+    return code[:place]
+
+
+def found_in(crate, file, text):
+    """The places of a file that make a refusal without an error."""
+    code = code_of(text)
+    enums = "|".join(VARIANTS)
+    for named in re.finditer(rf"\buse\b[^;]*\b(?:AllocError|{enums})(?:\s+as\b|::)[^;]*;|\btype\b[^;]*=\s*(?:\w+::)*(?:AllocError|{enums})\s*;", code):
+        yield f"{crate} {file}: {' '.join(named[0].split())}"
+    for made in MADE.finditer(code):
+        line = code[code.rfind("\n", 0, made.start()) + 1:code.find("\n", made.end())]
+        if re.match(r"\s*(?:pub )?(?:use|ghost)\b", line) or is_pattern(code, made.end()):
+            continue
+        head = led_to(code, made.start())
+        if not (ERROR.match(head) or BEHIND.search(head)):
+            name = [fn[1] for fn in re.finditer(r"\bfn (\w+)", code[:made.start()])]
+            yield f"{crate} {file} {name[-1] if name else ''}: {head}"
+
+
+def sources():
+    for crate in CRATES:
+        for path in sorted(glob.glob(os.path.join(TOP, "crates", f"acvp_{crate}", "src", "**", "*.rt"), recursive=True)):
+            with open(path, encoding="utf-8") as file:
+                yield crate, path, file.read()
+
+
+def main():
+    found = collections.Counter()
+    for crate, path, text in sources():
+        found.update(found_in(crate, os.path.basename(path)[:-3], text))
+    if "--list" in sys.argv[1:]:
+        print("\n".join(sorted(found.elements())))
+    known = collections.Counter(PLACES.strip().split("\n"))
+    if found != known:
+        raise SystemExit("made without an error:\n" + "\n".join((found - known).elements()) + "\nnot found any more:\n" + "\n".join((known - found).elements()))
+    tried = 0
+    for crate, path, text in sources():
+        file = os.path.basename(path)[:-3]
+        for name, old, new in WRONG:
+            if path.endswith(f"acvp_{name}") and old in text:
+                wrong = text.replace(old, new + old, 1)
+                if not collections.Counter(found_in(crate, file, wrong)) - collections.Counter(found_in(crate, file, text)):
+                    raise SystemExit(f"a wrong body of {name} isn't found: {new}")
+                tried += 1
+    if tried != len(WRONG):
+        raise SystemExit(f"{len(WRONG) - tried} wrong bodies have no place any more")
+    print(f"{sum(found.values())} places, {tried} wrong bodies found")
+
+
+main()
