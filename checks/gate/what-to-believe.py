@@ -19,7 +19,8 @@ PAGE = os.path.join(TOP, "docs", "PROOFS.md")
 REPLIES = {"crates/acvp_http/src/promise.rt": ["headline", "isolation", "denials_are_alike"], "crates/acvp_http/src/nothing.rt": ["run_from_nothing"]}
 OTHERS = {"crates/acvp_mac/src/one_time_codes.rt": ["accepted_step"], "crates/acvp_policy/src/grant.rt": ["decide"],
           "crates/acvp_answers/src/answering.rt": ["standard"], "crates/acvp_answers/src/grading.rt": ["grade", "disposition"],
-          "crates/acvp_commands/src/life.rt": ["files_live_on"], "crates/acvp_commands/src/done.rt": ["done_over"]}
+          "crates/acvp_commands/src/life.rt": ["files_live_on"], "crates/acvp_commands/src/done.rt": ["done_over"],
+          "crates/acvp_opening/src/command.rt": ["done_at"]}
 NAME = r"[^\s(){}\[\],;.:=]+"
 TOKEN = re.compile(r"[^\s(){}\[\],;]+")
 START = re.compile(rf"(?:abbrev |unfoldable |opaque )?(?:pub )?(?:record |data )?({NAME})(?: |$)")

@@ -43,14 +43,14 @@ pub data Deed (N : Type 0) : Type 0 where
   -- the copy got the database's path, in the place of what had it
   Replaced : Deed N
 
--- Of files nothing can be said here; but whoever copies with any system can show only by its calls that something was
+-- Of files nothing can be said here; but whoever works with any system can show only by its calls that something was
 -- done.
-module _ {S N : Type 0} (does : S → Deed N → S → Type 0) where
+module _ {S D : Type 0} (does : S → D → S → Type 0) where
   -- these deeds were done, one after another, and nothing else
-  abbrev pub Follows : List (Deed N) → S → S → Type 0
+  abbrev pub Follows : List D → S → S → Type 0
   Follows [] old new = new ≡ old
   Follows (deed ∷ deeds) old new = (mid : S) × does old deed mid × Follows deeds mid new
 
   -- what was done, in its order, is as this says
-  abbrev pub Did : (List (Deed N) → Type 0) → S → S → Type 0
-  Did Fits old new = (deeds : List (Deed N)) × Fits deeds × Follows deeds old new
+  abbrev pub Did : (List D → Type 0) → S → S → Type 0
+  Did Fits old new = (deeds : List D) × Fits deeds × Follows deeds old new

@@ -1,9 +1,13 @@
--- The faults of files and of what is shown, as a command tells them.
+-- The faults of files and of what is shown, and why a database isn't opened, as a command tells them.
 use Rattle.acvp_commands.specs.declared.fault.Fault.{Fault}
 use Rattle.acvp_commands.specs.declared.fault.Fault.TheVariants.{Keys, Memory, Schema, Taken, Unavailable, Unknown}
 use Rattle.acvp_commands.specs.declared.fault.Fault.TheVariants.{Write}
 use Rattle.acvp_connections.specs.declared.fault.FileFault.{FileFault}
 use Rattle.acvp_connections.specs.declared.fault.FileFault.TheVariants as files
+use Rattle.acvp_connections.specs.declared.connection.Unopened.{Unopened as FileUnopened}
+use Rattle.acvp_connections.specs.declared.connection.Unopened.TheVariants as file
+use Rattle.acvp_opening.specs.declared.databases.Unopened.{Unopened}
+use Rattle.acvp_opening.specs.declared.databases.Unopened.TheVariants as opening
 use Rattle.acvp_view.specs.declared.fault.ViewFault.{ViewFault}
 use Rattle.acvp_view.specs.declared.fault.ViewFault.TheVariants as view
 
@@ -14,6 +18,11 @@ fault_of_files files.Unavailable = Unavailable
 fault_of_files files.Broken = Unavailable
 fault_of_files files.Schema = Schema
 fault_of_files files.Memory = Memory
+
+-- a database that another process has stays that; a fault is told as that of the files
+abbrev pub why_unopened : FileUnopened → Unopened
+why_unopened file.Taken = opening.Taken
+why_unopened (file.Failed fault) = opening.Failed (fault_of_files fault)
 
 -- a vector set whose seed isn't among the keys is a fault of the keys
 abbrev pub fault_of_view : ViewFault → Fault

@@ -3,18 +3,21 @@ use crate::flags::Flags;
 use crate::port::{LoggedPort, logged_port};
 use crate::printing::print_line;
 use acvp_commands::{Fault, Host, Message, Service};
+use acvp_connections::Watch;
 use std::alloc::{AllocGlobal, Global};
 use std::fs::Files;
 use std::net::Net;
 use std::time::Clock;
 
-/// The machine that the program runs on, the name of the database that is open, the flags of the command, and whether
-/// it has said that it listens: from then on clients may be served.
+/// The machine that the program runs on, the name of the database that is open, the flags of the command, what shows
+/// how far a long read or write has come, and whether the command has said that it listens: from then on clients may be
+/// served.
 #[derive(Drop)]
 pub(crate) struct Machine<'a, R> {
     pub rt: &'a R,
     pub database: &'a str,
     pub flags: Flags,
+    pub watch: &'a Watch,
     pub has_listened: bool,
 }
 

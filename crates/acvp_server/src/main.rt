@@ -27,7 +27,7 @@ mod why;
 
 use crate::asks::{is_there, is_unseen, is_wanted};
 use crate::command::{LOG, VERBOSE, YES, command};
-use crate::database::{Said, done_in, named};
+use crate::database::{done_in, named};
 use crate::failure::Failed;
 use crate::flags::Flags;
 use crate::looks::shown;
@@ -44,37 +44,46 @@ use acvp_causes::{Because, Cause};
 use acvp_commands::{Deed, Fault, Invocation, Look, asked_by, exit_status, work_of};
 use acvp_files::{backup, restore, tell_open, tell_open_database, tell_without_sums};
 use acvp_log::LogForm;
+use acvp_opening::{Answer, Said};
 use clap::error::ErrorKind;
 use clap::{ArgMatches, Error};
-use sqlite::Wary;
 use std::io::{self, IsTerminal};
 use std::process::ExitCode;
 
-/// Prints the line of a server, and says whether it is that of an order that is done. A fault is told on standard
-/// error.
-fn relay(rt: &HostRuntime, line: &str) -> Result<bool, Fault> {
-    if line.starts_with("fault: ") {
-        return match eprintln!(rt; "{line}") {
-            Ok(()) | Err(_) => Ok(false),
-        };
-    }
-    match println!(rt; "{line}") {
-        Ok(()) => Ok(true),
-        Err(_) => Err(Fault::Write),
-    }
-}
-
 /// Says why the server of a database has refused an order, if the word doesn't say all.
-fn tell_relayed(rt: &HostRuntime, db: &str, deed: Deed<'_>, line: &str) {
-    match line {
-        "fault: unavailable" => {
+fn tell_relayed(rt: &HostRuntime, db: &str, deed: Deed<'_>, fault: Option<Fault>) {
+    match fault {
+        Some(Fault::Unavailable) => {
             if !tell_unsound(rt, db, deed) && !tell_full_database(rt, db) {
                 tell_because(rt, Because::of("--db", Cause::Relayed));
             }
         }
-        "fault: notInitial" => tell_reason_of(rt, db, deed, Fault::NotInitial),
-        "fault: taken" => tell_reason_of(rt, db, deed, Fault::Taken),
-        _ => {}
+        Some(fault) => tell_reason_of(rt, db, deed, fault),
+        None => {}
+    }
+}
+
+/// Prints what the server of a database answers to an order, and says whether this is done. A fault is told on standard
+/// error.
+fn relay(
+    rt: &HostRuntime,
+    db: &str,
+    deed: Deed<'_>,
+    answer: Answer,
+    flags: Flags,
+) -> Result<bool, Fault> {
+    match answer {
+        Answer::Done(line) => match println!(rt; "{line}") {
+            Ok(()) => Ok(true),
+            Err(_) => Err(Fault::Write),
+        },
+        Answer::Refused(line, fault) => {
+            let _ = eprintln!(rt; "{line}");
+            if flags.says_why {
+                tell_relayed(rt, db, deed, fault);
+            }
+            Ok(false)
+        }
     }
 }
 
@@ -91,13 +100,7 @@ fn say(
             print_line(rt, message)?;
             Ok(true)
         }
-        Said::Relayed(line) => {
-            let is_done = relay(rt, line.as_str())?;
-            if flags.says_why {
-                tell_relayed(rt, db, deed, line.as_str());
-            }
-            Ok(is_done)
-        }
+        Said::Relayed(answer) => relay(rt, db, deed, answer, flags),
     }
 }
 
@@ -159,7 +162,7 @@ fn run_deed(rt: &HostRuntime, db: &str, deed: Deed<'_>, flags: Flags) -> Result<
     if rt.stderr().is_terminal() {
         tell_same_secret(rt, name.as_str(), &work);
     }
-    let said = done_in(rt, name.as_str(), Wary, work, flags)?;
+    let said = done_in(rt, name.as_str(), work, flags)?;
     say(rt, db, deed, said, flags)
 }
 
