@@ -1,11 +1,11 @@
-"""No function below the command line makes up that memory ran out or that the store refused, so a reply is `unavailable`
-only for a cause: each place of the sources that makes such a value stands where an error was met, or it is one of the
-places below, each with its condition.
+"""Where a reply can be `unavailable` in the crates below the program, an error was met: each place of their sources that
+makes such a refusal is an arm for an error of a call that may refuse, or stands behind one, or is one of the places
+below, each with what leads to it.
 
     refusals-have-a-cause.py [--list]
 
-With --list it prints what it finds. It reads text, so code that is written to fool it can; then it tries itself on wrong
-bodies, each of which it has to find."""
+With --list it prints what it finds. It reads text and follows no types, so it finds what is written carelessly, as the
+wrong bodies that it tries; code that means to fool it, as by an allocation that can't succeed, passes."""
 import collections
 import glob
 import os
@@ -16,16 +16,34 @@ TOP = os.path.join(os.path.dirname(os.path.abspath(__file__)), "..", "..")
 CRATES = ("mac", "token", "policy", "caps", "gen", "answers", "registry", "tables", "json", "store", "desk", "http")
 VARIANTS = {"Rule": "Unavailable", "OrderReply": "Unavailable", "StoreFault": "Memory|Refused", "AdoptFault": "Memory|Refused",
             "NewFault": "Memory|Store", "TokenFault": "Memory", "BodyFault": "Memory", "CapFault": "Memory", "RegFault": "Memory",
-            "ReceiveFault": "Memory", "ScriptFault": "Memory"}
+            "ReceiveFault": "Memory", "ScriptFault": "Memory", "TextFault": "Memory|Letter"}
 NAMED = "|".join(f"{enum}::(?:{names})" for enum, names in VARIANTS.items())
 # a value of it, and not the name of its type
-MADE = re.compile(rf"\b(?:{NAMED}|Self::(?:Memory|Refused|Unavailable))\b|(?<!: )(?<![\w:<])AllocError(?=\s*(?:[),;}}{{]|\Z))")
+MADE = re.compile(
+    rf"(?:\b(?:{NAMED}|Self::(?:Memory|Refused|Unavailable))\b"
+    r"|(?<!: )(?<!-> )(?<!for )(?<![\w<])(?<!struct )AllocError\b(?!::|>)|AllocFailed \{"
+    r"|\bErrorCode::\w+|(?<!\w)Error::\w+|\#\[default\]|\bmacro_rules!)")
 # an arm for an error, or a block behind one
-ERROR = re.compile(rf"(?:Ok\()?Err\(|(?:{NAMED})\b(?: \| (?:{NAMED}))*$")
-BEHIND = re.compile(r"\blet (?:mut )?\(?(?:Ok|Some\(Ok)\(.*= .*else$|\.is_err\(\)$|^Err\(.*=>$|^fn from\(_\w*: Alloc(?:Error|Failed<T>)\) -> \w+$")
+MET = rf"(?:{NAMED}|DecodeAllocError::OutOfMemory)"
+ERROR = re.compile(rf"(?:Ok\()?Err\((?:\(?(?:\w+, )*\w+\)?|{MET})\)\)?(?: if [^|]*)?(?: => \w+)?$|{MET}(?: \| {MET})*$")
+BEHIND = re.compile(r"^let Ok\((?:mut )?\w+\) = .*else$|^if [^|]*\.is_err\(\)$|^fn from\(_\w*: Alloc(?:Error|Failed<T>)\) -> \w+$")
 
-# What stands for nothing: rows, texts and numbers that no run leaves, a database in the midst of a transaction.
+# The calls whose every error is want of memory or a refusal of the store, or is met in a row that stands for nothing.
+CALLS = set("""
+answers:insert answers:push desk:account desk:all_missing desk:apply desk:clone desk:complete desk:find_waiting
+desk:grade desk:issue_ring desk:look_at desk:may_be_approved desk:new desk:numbers_of desk:objects_shown
+desk:order desk:push desk:request desk:requests_shown desk:results_at desk:reviewer desk:take desk:with_account
+desk:with_capacity desk:without_account desk:written http:add_all http:extend_from_slice http:push json:with_url
+store:answers_from_text store:body_value store:from_text store:push store:read_object store:same_schema
+store:try_from tables:insert tables:push
+""".split())
+CALL = re.compile(r"(?:= |match |if )(?:&?\w+(?:\.|::)|<[^>]*>::)*(\w+)\(")
+TYPED = re.compile(r"::(?:Memory|OutOfMemory|Letter|Refused)\b|is_memory\(\)$|^fn from|^\w+::\w+$")
+
+# What leads to a refusal without such a call: mostly rows, texts and numbers that no run leaves and a database that isn't
+# as it must be; and conversions of an error that is in hand.
 PLACES = """
+answers verdict_text verdicts_from_text: let Some(verdict) = verdict_of_letter(*letter) else
 store counts given_since: None
 store fault fault_of: Error::SqliteFailure(ErrorCode::OutOfMemory)
 store fault fault_of: _
@@ -67,12 +85,12 @@ desk session session_shown: if facts.created >= END_OF_MOMENTS
 desk session draft_results: if facts.created >= END_OF_MOMENTS
 desk set told_results: if created >= END_OF_MOMENTS
 desk set draft_made: if epoch > cache.seeds().newest()
-desk set draft_set: SetPlace::Made(_, None) | SetPlace::Submit(None) | SetPlace::Resubmit(None) =>
+desk set draft_set: SetPlace::Made(_, None) | SetPlace::Submit(None) | SetPlace::Resubmit(None)
 desk submit graded_by: if epoch > cache.seeds().newest()
 desk submit draft_answers: let Some(kept) = kept_answers(session, number, others, graded) else
 http reply is_unavailable: pub fn is_unavailable(&self) -> bool
 """
-# Wrong bodies: a file, what stands there, and what is put before it or in its place. The contracts allow the first five.
+# Wrong bodies: a file, what stands there, and what is put before it. The contracts allow the first five.
 WRONG = [
     ("desk/src/find.rt", "    match *wish {\n        Wish::Session(session, SessionWish::Results) => tables",
      "    if tables.session(7)?.is_some() {\n        return Err(StoreFault::Refused);\n    }\n"),
@@ -83,17 +101,18 @@ WRONG = [
     ("desk/src/set.rt", "    let Ok(mut entry) = cache.take(", "    Err::<(), AllocError>(AllocError)?;\n"),
     ("desk/src/set.rt", "\nuse crate::", "\nuse acvp_tables::StoreFault as Other;"),
     ("http/src/reply.rt", "\nuse ", "\nuse acvp_policy::Rule::*;"),
+    ("desk/src/set.rt", "    let SetSource { capability, epoch } = source;", "    let Ok(_) = told else {\n        return Err(rule);\n    };\n    return Err(Rule::Unavailable);\n"),
+    ("desk/src/set.rt", "    let SetSource { capability, epoch } = source;", "    if number > 12 || cache.take(number).is_err() {\n        return Err(Rule::Unavailable);\n    }\n"),
+    ("tables/src/list.rt", "        Ok(first_shown(&self.sets, &SetIs", "        if number == 7 {\n            return Err(AllocError.into());\n        }\n"),
+    ("desk/src/token.rt", "\nuse ", "\nmacro_rules! refused {\n    () => {\n        Rule::Unavailable\n    };\n}\nuse "),
 ]
 
 
 def code_of(text):
     """The code without comments, and with empty texts, over as many lines."""
     def blank(found):
-        return '""' + "\n" * found[0].count("\n")
-    text = re.sub(r'b?r#"(?:.|\n)*?"#', blank, text)
-    text = re.sub(r'"(?:\\(?:.|\n)|[^"\\])*"', blank, text)
-    text = re.sub(r"//[^\n]*", "", text)
-    text = re.sub(r"b?'(?:\\.|[^'\\\n])'", "0", text)
+        return ("" if found[0].startswith("//") else '""') + "\n" * found[0].count("\n")
+    text = re.sub("|".join((r"//[^\n]*", r'b?r#"(?:.|\n)*?"#', r'b?"(?:\\(?:.|\n)|[^"\\])*"', r"b?'(?:\\.|[^'\\\n])'")), blank, text)
     # contracts tell of values, and make none
     return re.sub(r"\b(?:ensures|requires)\b[^{;]*\{(?:[^{}]|\{(?:[^{}]|\{[^{}]*\})*\})*\}", "", text)
 
@@ -122,9 +141,24 @@ def led_to(code, place):
         if code[at] in ")]}":
             depth += 1
         elif code[at] in "([" or (code[at] == "{" and depth > 0):
-            depth -= 1
-        elif code[at] == "{" or (code[at - 1:at + 1] == "=>" and depth <= 0):
+            depth = max(depth - 1, 0)
+        elif code[at] == "{" or (code[at - 1:at + 1] == "=>" and depth == 0):
             return " ".join(head_before(code, at if code[at] == "{" else at - 1).split())
+    return ""
+
+
+def matched(code, place):
+    """The head of the block that holds the arm of the expression at this place."""
+    depth = 0
+    for at in range(place - 1, 0, -1):
+        if code[at] in ")]}":
+            depth += 1
+        elif code[at] in "([" or (code[at] == "{" and depth > 0):
+            depth = max(depth - 1, 0)
+        elif code[at] == "{":
+            head = " ".join(head_before(code, at).split())
+            if "match " in head:
+                return head[head.rindex("match "):]
     return ""
 
 
@@ -148,10 +182,12 @@ def found_in(crate, file, text):
         yield f"{crate} {file}: {' '.join(named[0].split())}"
     for made in MADE.finditer(code):
         line = code[code.rfind("\n", 0, made.start()) + 1:code.find("\n", made.end())]
-        if re.match(r"\s*(?:pub )?(?:use|ghost)\b", line) or is_pattern(code, made.end()):
+        if re.match(r"\s*(?:pub )?(?:use|ghost)\b[^;]*(?:;\s*)?$", line) or made[0] != "#[default]" and is_pattern(code, made.end()):
             continue
-        head = led_to(code, made.start())
-        if not (ERROR.match(head) or BEHIND.search(head)):
+        head = re.sub(r" =>( \w+)?$", "", led_to(code, made.start()))
+        call = CALL.search(head if head.startswith(("let ", "if ")) else matched(code, made.start()))
+        known = call and f"{crate}:{call[1]}" in CALLS or TYPED.search(head)
+        if not (known and (ERROR.match(head) or BEHIND.search(head))):
             name = [fn[1] for fn in re.finditer(r"\bfn (\w+)", code[:made.start()])]
             yield f"{crate} {file} {name[-1] if name else ''}: {head}"
 
