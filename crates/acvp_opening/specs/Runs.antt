@@ -64,7 +64,7 @@ module _ {S H A : Type 0} (preparation : Preparation H A) where
   IsPrepared true first begun work old ready added = prepares first begun work old ready added
   IsPrepared false first begun work old ready added = (begun ≡ first) × (ready ≡ old) × (added ≡ None)
 
-  -- what was put in is taken out again if nobody was served; else all stays
+  -- what was put in is taken out again if no port was said to be open; else all stays
   abbrev pub MayTakeBack : Option A → Bool → H → H → Held S → Held S → Type 0
   MayTakeBack (Some added) false ended last worked new = takes_back ended last added worked new
   MayTakeBack (Some added) true ended last worked new = (last ≡ ended) × (new ≡ worked)
@@ -74,9 +74,9 @@ module _ {S H P I O A R : Type 0} (g : Ghosts S) (hosting : Hosting H P) (prepar
     (listening : Listening P I O A) (held : I → InputStream) (sent : O → OutputStream) where
   open preparation use {refuses, has_served}
 
-  -- It was prepared, if it has to be, and then the work was done over it. What was put in is taken out again if nobody
-  -- was served. It is wanted closed, even if the work isn't done, if clients may have been served or something was put
-  -- in.
+  -- It was prepared, if it has to be, and then the work was done over it. What was put in is taken out again if no port
+  -- was said to be open: then nobody was served. It is wanted closed, even if the work isn't done, if clients may have
+  -- been served or something was put in.
   pub record IsPreparedAndDone (work : Work) (first last : H) (old new : Held S) (outcome : Result Message Fault)
       (wanted : Bool) : Type 0 where
     pub begun : H

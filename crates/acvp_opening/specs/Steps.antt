@@ -13,8 +13,8 @@ pub data Step (O : Type 0) : Type 0 where
   Opened : List ℕ → Bool → O → Step O
   -- it wasn't opened
   NotOpened : List ℕ → Bool → Unopened → Step O
-  -- The work was done over the database that was opened, which came of it so. It is to be closed, or may be given up as
-  -- it is.
+  -- This work was done over the database that was opened, with this outcome. The database is wanted closed even if the
+  -- work isn't done, or not; and this is what became of it.
   Worked : O → Work → Result Message Fault → Bool → O → Step O
   -- what its log holds was to be copied to its file, and then it was given up
   Closed : O → Step O

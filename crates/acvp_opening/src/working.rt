@@ -41,7 +41,7 @@ fn is_wanted_closed(has_served: bool, has_added: bool) -> bool
     has_served || has_added
 }
 
-/// Takes out of a database again what was put in, if anything was and nobody was served.
+/// Takes out of a database again what was put in, if anything was and no port was said to be open.
 fn taken_back<S: Alter + Drop, H: Preparing>(
     host: &mut H,
     connection: Connection<S>,
