@@ -1,6 +1,6 @@
-"""Where a reply can be `unavailable` in the crates below the program, an error was met: each place of their sources that
-makes such a refusal is an arm for an error of a call that may refuse, or stands behind one, or is one of the places
-below, each with what leads to it.
+"""Where a reply can be `unavailable` in twelve crates, from acvp_mac to acvp_http, an error was met: each place of their
+sources that makes such a refusal is an arm for an error of a call that may refuse, or stands behind one, or is one of
+the places below, each with what leads to it.
 
     refusals-have-a-cause.py [--list]
 
@@ -40,8 +40,8 @@ store:try_from tables:insert tables:push
 CALL = re.compile(r"(?:= |match |if )(?:&?\w+(?:\.|::)|<[^>]*>::)*(\w+)\(")
 TYPED = re.compile(r"::(?:Memory|OutOfMemory|Letter|Refused)\b|is_memory\(\)$|^fn from|^\w+::\w+$")
 
-# What leads to a refusal without such a call: mostly rows, texts and numbers that no run leaves and a database that isn't
-# as it must be; and conversions of an error that is in hand.
+# What leads to a refusal without such a call: mostly rows, texts and numbers that no run leaves and a database that
+# isn't as it must be; and conversions of an error that is in hand.
 PLACES = """
 answers verdict_text verdicts_from_text: let Some(verdict) = verdict_of_letter(*letter) else
 store counts given_since: None
