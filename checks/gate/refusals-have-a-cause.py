@@ -44,11 +44,13 @@ TYPED = re.compile(r"::(?:Memory|OutOfMemory|Letter|Refused)\b|is_memory\(\)$|^f
 # isn't as it must be; and conversions of an error that is in hand.
 PLACES = """
 answers verdict_text verdicts_from_text: let Some(verdict) = verdict_of_letter(*letter) else
+store columns truth: _
+store columns fitting: else
 store counts given_since: None
 store fault fault_of: Error::SqliteFailure(ErrorCode::OutOfMemory)
 store fault fault_of: _
+store members one: if rows.len() > 1
 store objects kept_object: else
-store pages single: if rows.len() > 1
 store set_ranges graded_by: _
 store set_ranges graded_of: _
 store set_texts capability_of: let Some(text) = &column.text else
@@ -59,9 +61,6 @@ store sets epoch_in: Ok(None)
 store sets find_sets: if 92233720368547757 < session
 store sets run: let Some(disposition) = kept_disposition(self.graded.disposition()) else
 store sets run: if 92233720368547757 < session.number
-store shown truth: _
-store shown fitting: else
-store shown one: if rows.len() > 1
 store store create: if !connection.is_autocommit()
 store store create: if !is_empty(&connection)
 store store migrated_in_memory: if !connection.is_autocommit() || !is_empty(&connection)

@@ -8,6 +8,7 @@ use Rattle.sqlite_sql.specs.Aggregate.{better, best, skips, arguments}
 use Rattle.sqlite_sql.specs.Group.{IsSummary, Grouping, value_over}
 use Rattle.sqlite_sql.specs.declared.aggregate.AggregateOp.TheVariants.{Max}
 use Rattle.acvp_tables.proofs.EpochLemmas.{merged, merged_more}
+use Rattle.acvp_store.proofs.Words.{⊤}
 use Rattle.acvp_store.proofs.Words.{all-permutation, AllByRecursion, AllZip, append-nil, AreKept, Binary, cases_Bool}
 use Rattle.acvp_store.proofs.Words.{col, Env, epoch_shown, eval, filter, greater, greatest_epoch_of, HoldsSets, Int}
 use Rattle.acvp_store.proofs.Words.{is_lt, IsAnswer, IsPermutation, IsPermutation-map, IsPermutation-refl, IsSet}
@@ -223,8 +224,8 @@ epochs_told _ _ h = absurd h
 module _ {X E F G : Type 0} (table : List Row) (rows_in : X → List Row) where
   pub find_greatest : (outcome : Result X E) (found : Result (Option (Option ℕ)) F) (result : Result (Option ℕ) G)
       → (IsOk found → IsOk outcome) → (IsOk result → IsOk found)
-      → IfOk found (λ b. IfOk outcome (λ x. (list : List (Option ℕ)) → IsPermutation (map epoch_shown list) (rows_in x)
-      → b ≡ slice_get list 0))
+      → IfOk found (λ b. IfOk outcome (λ x. (list : List (Option ℕ)) → AllByRecursion (λ _. ⊤) list
+      → IsPermutation (map epoch_shown list) (rows_in x) → b ≡ slice_get list 0))
       → IfOk result (λ e. IfOk found (λ b. b ≡ Some e))
       → IfOk outcome (λ x. (list : List SetColumns) → AreKept set_key set_row table list
       → rows_in x ≡ epoch_shown (greatest (epochs list)) ∷ [])
@@ -232,7 +233,7 @@ module _ {X E F G : Type 0} (table : List Row) (rows_in : X → List Row) where
   find_greatest outcome found result ok_found ok_result =
       told_through outcome found result ok_found ok_result _ _ _ _ (λ x b e one tells rows sets h.
       let max = greatest (epochs h.columns) in
-      let is : b ≡ Some max = one (max ∷ [])
+      let is : b ≡ Some max = one (max ∷ []) (tt, tt)
       (subst (IsPermutation (epoch_shown max ∷ [])) (sym (rows h.columns h.kept)) (IsPermutation-refl _)) in
       let it : e ≡ max = cc in
       it ∙ epochs_told h.columns sets h.same)

@@ -6,32 +6,22 @@ use Rattle.sqlite_trees.specs.declared.store.Store.{Ghosts}
 use Rattle.sqlite_trees.specs.Tree.{Trees}
 use Rattle.acvp_tables.specs.Calls.{Finds, Reads, Changes}
 use Rattle.acvp_tables.specs.Changes.{after, after_order}
-use Rattle.acvp_tables.specs.declared.change.CancelledSet.{CancelledSet}
-use Rattle.acvp_tables.specs.declared.change.KeptAnswers.{KeptAnswers}
-use Rattle.acvp_tables.specs.declared.change.NewSession.{NewSession}
-use Rattle.acvp_tables.specs.declared.change.NewRequest.{NewRequest}
-use Rattle.acvp_tables.specs.declared.change.NewCertification.{NewCertification}
 use Rattle.acvp_tables.specs.declared.rows.RequestStatus.TheVariants as status
 use Rattle.acvp_tables.specs.declared.rows.RequestBody.TheVariants as body
 use Rattle.acvp_tables.specs.declared.change.Approval.{Approval}
-use Rattle.acvp_tables.specs.declared.change.NewAccount.{NewAccount}
-use Rattle.acvp_tables.specs.declared.change.UsedStep.{UsedStep}
 use Rattle.acvp_tables.specs.declared.change.Change.TheVariants as change
 use Rattle.acvp_tables.specs.declared.change.OrderChange.TheVariants as order
 use Rattle.acvp_store.specs.Private.Found.{store_of}
 use Rattle.acvp_store.proofs.Words.{account_tree, AccountRow, all-append, AllByRecursion, Alters, approved_objects}
 use Rattle.acvp_store.proofs.Words.{AreKept, AreWellNumbered, BecomesMigrated, before, Begins, BodyReads, Both}
-use Rattle.acvp_store.proofs.Words.{cancelled_session, cancelled_set, cases_Bool, changed, Content, Created, Database}
-use Rattle.acvp_store.proofs.Words.{disabled, FitColumns, Held, HoldsAccounts, HoldsObjects, HoldsRequests}
-use Rattle.acvp_store.proofs.Words.{HoldsReviewers, HoldsSessions, HoldsSets, InStore, is_account, is_pair, is_request}
-use Rattle.acvp_store.proofs.Words.{is_reviewer, is_session, is_set, is_version_row, IsDatabase, IsKeepable}
+use Rattle.acvp_store.proofs.Words.{cases_Bool, changed, Content, Created, Database, FitColumns, Held, HoldsAccounts}
+use Rattle.acvp_store.proofs.Words.{HoldsObjects, HoldsRequests, HoldsReviewers, HoldsSessions, HoldsSets, InStore}
+use Rattle.acvp_store.proofs.Words.{is_pair, is_request, is_reviewer, is_version_row, IsDatabase, IsKeepable}
 use Rattle.acvp_store.proofs.Words.{IsPermutation-refl, IsRead, IsStoreOf, IsWritten, Layout, leaves, list_any, Makes}
-use Rattle.acvp_store.proofs.Words.{may_fail, meaning_of, new_account, new_certification, new_objects, new_request}
-use Rattle.acvp_store.proofs.Words.{new_session, new_sets, no_schema, not, Registers, request_at, request_tree}
-use Rattle.acvp_store.proofs.Words.{RequestBody, RequestRow, reviewer_tree, ReviewerRow, Row, schema_of, ServesStore}
-use Rattle.acvp_store.proofs.Words.{session_tree, SessionRow, set_tree, SetRow, Stands, stands, State, state}
-use Rattle.acvp_store.proofs.Words.{StaysSound, StoreFault, Under, UnderStore, with_counts, with_graded}
-use Rattle.acvp_store.proofs.Words.{with_last_request, with_passed, with_reviewer, with_status, with_step}
+use Rattle.acvp_store.proofs.Words.{may_fail, meaning_of, new_objects, no_schema, not, Registers, request_at}
+use Rattle.acvp_store.proofs.Words.{request_tree, RequestBody, RequestRow, reviewer_tree, ReviewerRow, Row, schema_of}
+use Rattle.acvp_store.proofs.Words.{ServesStore, session_tree, SessionRow, set_tree, SetRow, Stands, stands, State}
+use Rattle.acvp_store.proofs.Words.{state, StaysSound, StoreFault, Under, UnderStore, with_reviewer, with_status}
 use Rattle.acvp_store.proofs.Words.{WritesVersion}
 use Rattle.acvp_store.proofs.Sound.{kinds_of}
 use Rattle.acvp_store.specs.declared.setup.StoreTable.TheVariants as table
@@ -360,84 +350,6 @@ reviewers_altered change layout d e h c st = record {
       (sym (h.others.1.1.1.1.1.0 (λ e. reviewer_apart layout 7 refl refl (sym e)))) st.requests;
   reviewers = h.kept c.reviewers st.reviewers;
 }
-
-pub cancelled : (n : ℕ) (layout : Layout) (d e : Database)
-    → Alters layout session_tree HoldsSessions (changed (is_session n) cancelled_session) d e → (c : Content)
-    → Stands layout d.trees c → Stands layout e.trees (after (change.CancelSession n) c)
-unfolding after
-cancelled n layout d e h c st = sessions_altered (changed (is_session n) cancelled_session) layout d e h c st
-
-pub added : (a : NewAccount) (layout : Layout) (d e : Database)
-    → Alters layout account_tree HoldsAccounts (λ rows. rows ++ new_account a ∷ []) d e → (c : Content)
-    → Stands layout d.trees c → Stands layout e.trees (after_order (order.AddAccount a) c)
-unfolding after_order
-added a layout d e h c st = accounts_altered (λ rows. rows ++ new_account a ∷ []) layout d e h c st
-
-pub turned_off : (n : ℕ) (layout : Layout) (d e : Database)
-    → Alters layout account_tree HoldsAccounts (changed (is_account n) disabled) d e → (c : Content)
-    → Stands layout d.trees c → Stands layout e.trees (after_order (order.DisableAccount n) c)
-unfolding after_order
-turned_off n layout d e h c st = accounts_altered (changed (is_account n) disabled) layout d e h c st
-
-pub stepped : (u : UsedStep) (layout : Layout) (d e : Database)
-    → Alters layout account_tree HoldsAccounts (changed (is_account u.account) (with_step u.step)) d e → (c : Content)
-    → Stands layout d.trees c → Stands layout e.trees (after (change.UseStep u) c)
-unfolding after
-stepped u layout d e h c st = accounts_altered (changed (is_account u.account) (with_step u.step)) layout d e h c st
-
--- ---- two parts
-
-pub set_cancelled : (x : CancelledSet) (layout : Layout) (d e : Database)
-    → Both (Alters layout (set_tree layout) HoldsSets (changed (is_set x.set) cancelled_set))
-    (Alters layout session_tree HoldsSessions (changed (is_session x.session) (with_counts x.live x.passed))) d e
-    → (c : Content) → AreWellNumbered c → Stands layout d.trees c → Stands layout e.trees (after (change.CancelSet x) c)
-unfolding after
-set_cancelled x layout d e h c sound st =
-    sessions_altered (changed (is_session x.session) (with_counts x.live x.passed)) layout h.0 e h.2 _
-    (sets_altered (changed (is_set x.set) cancelled_set) layout d h.0 h.1 c st)
-
-pub answers_kept : (k : KeptAnswers) (layout : Layout) (d e : Database)
-    → Both (Alters layout (set_tree layout) HoldsSets (changed (is_set k.set) (with_graded k.graded)))
-    (Alters layout session_tree HoldsSessions (changed (is_session k.session) (with_passed k.passed))) d e
-    → (c : Content) → AreWellNumbered c → Stands layout d.trees c
-    → Stands layout e.trees (after (change.KeepAnswers k) c)
-unfolding after
-answers_kept k layout d e h c sound st =
-    sessions_altered (changed (is_session k.session) (with_passed k.passed)) layout h.0 e h.2 _
-    (sets_altered (changed (is_set k.set) (with_graded k.graded)) layout d h.0 h.1 c st)
-
-pub session_begun : (s : NewSession) (layout : Layout) (d e : Database)
-    → Both (Alters layout session_tree HoldsSessions (λ rows. rows ++ new_session s ∷ []))
-    (Alters layout (set_tree layout) HoldsSets
-    (λ rows. rows ++ new_sets s.number s.epoch 1 s.registration.capabilities)) d e
-    → (c : Content) → AreWellNumbered c → Stands layout d.trees c
-    → Stands layout e.trees (after (change.NewSession s) c)
-unfolding after
-session_begun s layout d e h c sound st =
-    sets_altered (λ rows. rows ++ new_sets s.number s.epoch 1 s.registration.capabilities) layout h.0 e h.2 _
-    (sessions_altered (λ rows. rows ++ new_session s ∷ []) layout d h.0 h.1 c st)
-
-pub request_made : (r : NewRequest) (layout : Layout) (d e : Database)
-    → Alters layout request_tree HoldsRequests (λ rows. rows ++ new_request r ∷ []) d e → (c : Content)
-    → Stands layout d.trees c → Stands layout e.trees (after (change.NewRequest r) c)
-unfolding after
-request_made r layout d e h c st = requests_altered (λ rows. rows ++ new_request r ∷ []) layout d e h c st
-
-pub certification_asked : (x : NewCertification) (layout : Layout) (d e : Database)
-    → Both (Alters layout request_tree HoldsRequests (λ rows. rows ++ new_certification x ∷ []))
-    (Alters layout session_tree HoldsSessions
-    (changed (is_session x.certification.session) (with_last_request x.number))) d e
-    → (c : Content) → AreWellNumbered c → Stands layout d.trees c → Stands layout e.trees (after (change.Certify x) c)
-unfolding after
-certification_asked x layout d e h c sound st =
-    sessions_altered (changed (is_session x.certification.session) (with_last_request x.number)) layout h.0 e h.2 _
-    (requests_altered (λ rows. rows ++ new_certification x ∷ []) layout d h.0 h.1 c st)
-
-pub rejected : (n : ℕ) (layout : Layout) (d e : Database)
-    → Alters layout request_tree HoldsRequests (changed (is_request n) (with_status status.Rejected)) d e
-    → (c : Content) → Stands layout d.trees c → Stands layout e.trees (after_order (order.Reject n) c)
-unfolding after_order
-rejected n layout d e h c st = requests_altered (changed (is_request n) (with_status status.Rejected)) layout d e h c st
 
 pub reviewer_added : (r : ReviewerRow) (layout : Layout) (d e : Database)
     → Alters layout (reviewer_tree layout) HoldsReviewers (with_reviewer r) d e → (c : Content)

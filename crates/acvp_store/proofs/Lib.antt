@@ -7,8 +7,10 @@ pub mod Parts
 pub mod Places
 pub mod Texts
 pub mod QueryForms
+pub mod Compiled
 pub mod Readings
 pub mod QueryRows
+pub mod Finding
 pub mod Writings
 pub mod MadeTables
 pub mod Idle

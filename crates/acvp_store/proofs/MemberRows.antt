@@ -31,7 +31,7 @@ pub account_rows : (layout : Layout) (n : ℕ) (old new : State) (rows : List Ro
     → IsPermutation (map account_shown (keyed account_key n kept.ordered)) rows
 account_rows layout n =
     rows_by AccountAt layout account_tree account_terms refl (λ trees. refl) account_key account_row account_shown
-    (λ a. refl) (λ k a. refl) (pos n) (λ a. a.number == n) (λ a. test_equals a.number n)
+    (λ a. refl) (λ k a. refl) (whole n) (λ a. a.number == n) (λ a. test_equals a.number n)
 
 -- ---- one account added or changed
 

@@ -1,6 +1,6 @@
 -- Objects of a kind in ranges of numbers.
 use Rattle.std.proofs.Common.{◌≡◌, ◌<◌, ◌≤◌, ◌^◌, ℕ, ℤ, pos, List, [], ◌∷◌, ◌++◌, map, length, Bool, true, false}
-use Rattle.std.proofs.Common.{Option, Some, None, Result, IfOk, IfErr, IsOk, IsTrue, refl, sym, ap, ap₂, subst}
+use Rattle.std.proofs.Common.{Option, Some, None, Result, IfOk, IfErr, IsOk, IsTrue, refl, ap, ap₂, subst}
 use Rattle.std.proofs.Common.{◌∙◌, arith}
 use Rattle.std.specs.Prelude.{◌&&◌, ◌||◌, ◌==◌}
 use Rattle.sqlite.specs.Ops.{binary}

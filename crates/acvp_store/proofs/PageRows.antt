@@ -1,13 +1,13 @@
 -- What the queries of pages, and of one request or object, show.
-use Rattle.std.proofs.Common.{◌≡◌, ℕ, ◌+◌, pos, List, [], ◌∷◌, map, take, true, refl, sym, ap, subst, ◌∙◌, arith, ◌<◌}
-use Rattle.std.proofs.Common.{◌≤◌, ◌^◌, ℤ, negsuc, drop, slice_get, false, inl, inr, Bool, ap₂}
+use Rattle.std.proofs.Common.{◌≡◌, ℕ, ◌+◌, pos, List, [], ◌∷◌, map, take, true, refl, sym, ap, subst, ◌∙◌, arith}
+use Rattle.std.proofs.Common.{◌≤◌, ◌^◌, drop, slice_get, false, inl, inr, Bool, ap₂}
 use Rattle.std.specs.Prelude.{◌&&◌, ◌==◌, if◌then◌else◌, filter}
 use Rattle.sqlite.specs.Ops.{binary}
 use Rattle.acvp_tables.specs.Content.{page}
 use Rattle.acvp_store.proofs.Words.{all-filter, AllByRecursion, AreWellNumbered, Binary, body_number, body_text}
 use Rattle.acvp_store.proofs.Words.{BodyReads, cases_Bool, col, Compare, Content, drop-map, Entry, entry_row, Eq}
 use Rattle.acvp_store.proofs.Words.{eval_all, filter-map, first_of_account, FitColumns, Ge, given_number, HoldsObjects}
-use Rattle.acvp_store.proofs.Words.{HoldsRequests, HoldsSessions, Int, is_ge, is_kind, is_le, is_true, IsKeepable}
+use Rattle.acvp_store.proofs.Words.{HoldsRequests, HoldsSessions, is_ge, is_kind, is_le, is_true, IsKeepable}
 use Rattle.acvp_store.proofs.Words.{IsOfKind, IsPermutation, IsPermutation-filter, IsPermutation-map, IsPermutation-sym}
 use Rattle.acvp_store.proofs.Words.{IsPermutation-trans, IsReadable, Kind, kind_number, Layout, Le, map-id, map-map}
 use Rattle.acvp_store.proofs.Words.{min, nat_le, nat_tests, Null, object_at, object_columns, object_tree, ObjectRow}
@@ -16,7 +16,7 @@ use Rattle.acvp_store.proofs.Words.{PurposeReads, request_at, request_key, reque
 use Rattle.acvp_store.proofs.Words.{request_tree, RequestBody, RequestRow, requests_of, RequestStatus, Row, schema_of}
 use Rattle.acvp_store.proofs.Words.{session_row, session_shown, session_tree, SessionRow, sessions_of, Shown, State}
 use Rattle.acvp_store.proofs.Words.{status_number, status_shown, summary_shown, take-map, Term, Text, value_cmp-Int}
-use Rattle.acvp_store.proofs.Words.{whole}
+use Rattle.acvp_store.proofs.Words.{whole, Value}
 use Rattle.acvp_store.proofs.Owned.{last_number, in_range, range_drops, rising_dropped, session_numbers}
 use Rattle.acvp_store.proofs.Owned.{session_selection, request_numbers, request_selection, object_numbers}
 use Rattle.acvp_store.proofs.Owned.{object_selection}
@@ -82,7 +82,7 @@ session_page layout u o l old new rows schema shown c sound h =
 
 -- ---- requests, without the objects that they ask to register: what a query shows of one
 
-abbrev body_shown : RequestBody → Rattle.sqlite.specs.declared.types.Value.Value
+abbrev body_shown : RequestBody → Value
 body_shown b = if body_number b == 4 then Text (body_text b) else Null
 
 abbrev listed_request : RequestRow → Row
@@ -131,9 +131,9 @@ request_rows layout =
     rows_at RequestAt layout request_tree request_terms refl (λ trees. refl) request_key request_row request_shown
     (λ r. refl) (λ k r. refl)
 
-pub request_found : (layout : Layout) (n : ℕ) (k : ℤ) → (n < 2 ^ 63 → k ≡ pos n) → (2 ^ 63 ≤ n → k ≡ negsuc 0)
+pub request_found : (layout : Layout) (n : ℕ) (k : Value) → IsFitting n k → IsTooLarge n k
     → (old new : State) (rows : List Row) → old.now.schema ≡ schema_of layout
-    → Shown (reading_text RequestAt) (Int k ∷ []) old new rows
+    → Shown (reading_text RequestAt) (k ∷ []) old new rows
     → (c : Content) → AreWellNumbered c → HoldsRequests (old.now.trees request_tree) c.requests
     → AllByRecursion (λ (r : RequestRow). IsReadable r.body) (keyed request_key n c.requests)
     × IsPermutation (map request_shown (keyed request_key n c.requests)) rows
@@ -197,9 +197,9 @@ statuses n requests = map (λ (r : RequestRow). r.status) (keyed request_key n r
 abbrev shown_of : RequestRow → Row
 shown_of r = status_shown r.status
 
-pub status_rows : (layout : Layout) (n : ℕ) (k : ℤ) → IsFitting n k → IsTooLarge n k
+pub status_rows : (layout : Layout) (n : ℕ) (k : Value) → IsFitting n k → IsTooLarge n k
     → (old new : State) (rows : List Row) → old.now.schema ≡ schema_of layout
-    → Shown (reading_text StatusAt) (Int k ∷ []) old new rows
+    → Shown (reading_text StatusAt) (k ∷ []) old new rows
     → (requests : List RequestRow) → HoldsRequests (old.now.trees request_tree) requests
     → IsPermutation (map status_shown (statuses n requests)) rows
 status_rows layout n k fits large old new rows schema shown requests h =
@@ -242,16 +242,16 @@ module _ (r : Reading) (layout : Layout) (project : List Term)
     (is : reading_query r layout ≡ simple object_tree (equals 1 0 ∷ equals 2 1 ∷ []) project) (show : ObjectRow → Row)
     (shows : (params : Row) (e : Entry ObjectRow) → eval_all project (params ∷ entry_row object_columns e ∷ [])
     ≡ show e.row) where
-  rows_of : (k : ℕ) (n : ℤ) (p : ObjectRow → Bool)
+  rows_of : (k : ℕ) (n : Value) (p : ObjectRow → Bool)
       → ((o : ObjectRow)
       → (is_true (binary (Compare Eq Binary) (whole (kind_number o.object.kind)) (whole k)) &&
-      (is_true (binary (Compare Eq Binary) (whole o.number) (Int n)) && true)) ≡ p o)
+      (is_true (binary (Compare Eq Binary) (whole o.number) n) && true)) ≡ p o)
       → (old new : State) (rows : List Row) → old.now.schema ≡ schema_of layout
-      → Shown (reading_text r) (whole k ∷ Int n ∷ []) old new rows
+      → Shown (reading_text r) (whole k ∷ n ∷ []) old new rows
       → (objects : List ObjectRow) → HoldsObjects (old.now.trees object_tree) objects
       → IsPermutation (map show (filter p objects)) rows
   rows_of k n p tests old new rows schema shown objects h =
-      let params = whole k ∷ Int n ∷ [] in
+      let params = whole k ∷ n ∷ [] in
       let row = λ (e : Entry ObjectRow). e.row in
       let passing = filter (λ (e : Entry ObjectRow). p e.row) h.entries in
       let found = selected params (entry_row object_columns) (λ e. p e.row) (equals 1 0 ∷ equals 2 1 ∷ [])
@@ -263,9 +263,10 @@ module _ (r : Reading) (layout : Layout) (project : List Term)
       IsPermutation-trans _ _ _ (IsPermutation-sym _ _ (IsPermutation-map show _ _ same))
       (subst (λ xs. IsPermutation xs rows) (sym (map-map show row passing)) found)
 
-  pub objects_at : (kind : Kind) (n : ℕ) (k : ℤ) → IsFitting n k → IsTooLarge n k → (old new : State) (rows : List Row)
+  pub objects_at : (kind : Kind) (n : ℕ) (k : Value) → IsFitting n k → IsTooLarge n k
+      → (old new : State) (rows : List Row)
       → old.now.schema ≡ schema_of layout
-      → Shown (reading_text r) (whole (kind_number kind) ∷ Int k ∷ []) old new rows
+      → Shown (reading_text r) (whole (kind_number kind) ∷ k ∷ []) old new rows
       → (objects : List ObjectRow) → HoldsObjects (old.now.trees object_tree) objects → FitColumns objects
       → IsPermutation (map show (filter (is_it kind n) objects)) rows
   objects_at kind n k fits large old new rows schema shown objects h fit =
@@ -282,9 +283,9 @@ module _ (r : Reading) (layout : Layout) (project : List Term)
             rw (none_fits kind n objects high fit) (rw (none_passes objects) at found)
       ]
 
-pub owner_rows : (layout : Layout) (kind : Kind) (n : ℕ) (k : ℤ) → IsFitting n k → IsTooLarge n k
+pub owner_rows : (layout : Layout) (kind : Kind) (n : ℕ) (k : Value) → IsFitting n k → IsTooLarge n k
     → (old new : State) (rows : List Row) → old.now.schema ≡ schema_of layout
-    → Shown (reading_text OwnerAt) (whole (kind_number kind) ∷ Int k ∷ []) old new rows
+    → Shown (reading_text OwnerAt) (whole (kind_number kind) ∷ k ∷ []) old new rows
     → (objects : List ObjectRow) → HoldsObjects (old.now.trees object_tree) objects → FitColumns objects
     → IsPermutation (map owner_shown (owners kind n objects)) rows
 owner_rows layout kind n k fits large old new rows schema shown objects h fit =
@@ -303,9 +304,9 @@ first_owner kind n (o ∷ objects) = elim (cases_Bool (is_it kind n o)) [
 
 -- ---- registered objects: one by its kind and number, and the pages of an account's
 
-pub object_found : (layout : Layout) (kind : Kind) (n : ℕ) (k : ℤ) → (n < 2 ^ 63 → k ≡ pos n)
-    → (2 ^ 63 ≤ n → k ≡ negsuc 0) → (old new : State) (rows : List Row) → old.now.schema ≡ schema_of layout
-    → Shown (reading_text ObjectAt) (whole (kind_number kind) ∷ Int k ∷ []) old new rows
+pub object_found : (layout : Layout) (kind : Kind) (n : ℕ) (k : Value) → IsFitting n k
+    → IsTooLarge n k → (old new : State) (rows : List Row) → old.now.schema ≡ schema_of layout
+    → Shown (reading_text ObjectAt) (whole (kind_number kind) ∷ k ∷ []) old new rows
     → (objects : List ObjectRow) → HoldsObjects (old.now.trees object_tree) objects → FitColumns objects
     → AllByRecursion IsKeepable (filter (is_it kind n) objects)
     × IsPermutation (map object_columns (filter (is_it kind n) objects)) rows

@@ -3,11 +3,17 @@ use Rattle.std.proofs.Common.{◌≡◌, ◌≤◌, inl, inr, ℕ, List, Bool, t
 use Rattle.std.proofs.Common.{IsTrue, IfOk, IfErr, IsOk, refl, sym, subst, ◌∙◌, arith}
 use Rattle.sqlite_trees.proofs.Doubt.{no_doubt}
 use Rattle.sqlite_schema.specs.declared.command.Returning.{Returning}
+use Rattle.std.specs.Prelude.{◌≢◌, IsErrAnd}
+use Rattle.sqlite.specs.declared.error.Error.TheVariants.{SqliteFailure}
+use Rattle.sqlite.specs.declared.error.ErrorCode.TheVariants.{OutOfMemory}
+use Rattle.acvp_tables.specs.declared.tables.StoreFault.{StoreFault}
+use Rattle.acvp_tables.specs.declared.tables.StoreFault.TheVariants.{Refused}
 use Rattle.sqlite.specs.State.{Shown, FailsToQuery, IsNotRun}
 use Rattle.sqlite.specs.Clock.{timed}
-use Rattle.acvp_store.proofs.Words.{CommitsShowing, doubt, Error, FailsToShow, first, HasCleanDisk, IsRead, IsReady}
+use Rattle.acvp_store.proofs.Words.{CommitsShowing, doubt, Error, FailsToShow, HasCleanDisk, IsRead, IsReady}
 use Rattle.acvp_store.proofs.Words.{IsRolledBack, IsUnchanged, LeavesNoMore, Row, ShowsRows, State, Stays, Survives}
-use Rattle.acvp_store.proofs.Silent.{asks, silent, commits_nothing}
+use Rattle.acvp_store.specs.Private.Queries.{IsQuery}
+use Rattle.acvp_store.proofs.Silent.{silent, commits_nothing}
 
 -- an open store is clean, by the law of each store
 pub clean_if_open : (is_clean is_open : Bool) → (is_clean ≡ false → is_open ≡ false) → IsTrue is_open
@@ -52,7 +58,7 @@ stays_failed sql params old new e ready (inr h) = go h.0.returning h.2
     go (Some what) (inl it) = same_unchanged old new ready it.1
     go (Some what) (inr it) = same_undone old new ready it.3
 
-pub unchanged_shown : (sql : List ℕ) (params : Row) (old new : State) (rows : List Row) → asks (first sql) ≡ true
+pub unchanged_shown : (sql : List ℕ) (params : Row) (old new : State) (rows : List Row) → IsQuery sql
     → Shown sql params old new rows → IsUnchanged old new
 unfolding Shown
 unchanged_shown sql params old new rows is h =
@@ -68,9 +74,18 @@ read_as (Err e) (Ok y) old new same h = absurd (let impossible = same refl in cc
 read_as r (Err f) old new same h =
     record { stays = h.stays; was_clean = h.was_clean; stays_open = tt; limit = h.limit; left = h.left }
 
+-- why it is Refused
+pub failed : {X Y : Type 0} (outcome : Result X Error) (result : Result Y StoreFault) (Fails : Error → Type 0)
+    → IfErr result (λ fault. fault ≡ Refused → IsErrAnd outcome (λ error. error ≢ SqliteFailure OutOfMemory))
+    → IfErr outcome Fails
+    → IfErr result (λ fault. fault ≡ Refused → (error : Error) × (error ≢ SqliteFailure OutOfMemory) × Fails error)
+failed outcome (Ok y) Fails refused fails = tt
+failed (Ok x) (Err fault) Fails refused fails = λ is. absurd (refused is)
+failed (Err e) (Err fault) Fails refused fails = λ is. (e, refused is, fails)
+
 -- what `query_all` ensures, of a text that is a SELECT
 module _ (sql : List ℕ) (params : Row) (old new : State) (law : new.is_clean ≡ false → new.is_open ≡ false)
-    (ready : IsReady old) (is : asks (first sql) ≡ true)
+    (ready : IsReady old) (is : IsQuery sql)
     (kept : Survives old new (CommitsShowing sql params old)) where
   later : (HasCleanDisk new → Stays old new) → Stays old new
   later h = let clean = clean_if_open new.is_clean new.is_open law in record {

@@ -1,6 +1,6 @@
 -- The rows that a query meets, whatever they are, what is read of each of them, and the row of a number.
-use Rattle.std.proofs.Common.{◌≡◌, ℕ, List, [], ◌∷◌, map, Ordering, Less, Equal, Greater, Bool, Ok, Err, Result, IfOk}
-use Rattle.std.proofs.Common.{IsOk, refl, sym, ap, subst, ◌∙◌, arith, inl, inr, ◌<◌, ◌≤◌, ◌^◌, ℤ, pos, negsuc, false}
+use Rattle.std.proofs.Common.{◌≡◌, ℕ, List, [], ◌∷◌, map, Ordering, Less, Equal, Greater, Bool, Result, IfOk}
+use Rattle.std.proofs.Common.{IsOk, refl, sym, ap, subst, ◌∙◌, arith, inl, inr, ◌<◌, ◌≤◌, ◌^◌, negsuc, false}
 use Rattle.std.specs.Prelude.{◌==◌}
 use Rattle.sqlite.specs.Ops.{binary}
 use Rattle.acvp_store.proofs.Words.{all-permutation, AllByRecursion, AreKept, AreMet, AreShown, BeginsWith, Binary}
@@ -11,7 +11,7 @@ use Rattle.acvp_store.proofs.Words.{output, overlay, Row, rowid, schema_of, Show
 use Rattle.acvp_store.proofs.Words.{value_cmp-apart, whole}
 use Rattle.acvp_store.proofs.SelectedRows.{matched, truth_back, test_equals, test_none, selected}
 use Rattle.acvp_store.proofs.QueryForms.{ordered_by, equals, simple}
-use Rattle.acvp_store.proofs.Told.{told_through}
+use Rattle.acvp_store.proofs.Told.{told, told_through}
 use Rattle.acvp_store.proofs.Keyed.{keyed, none_fits, none_passes, small_or_large}
 use Rattle.acvp_store.proofs.Parts.{and_true}
 use Rattle.acvp_store.proofs.Readings.{Reading, answers_as, reading_query, reading_text}
@@ -102,73 +102,68 @@ module _ {T : Type 0} (meets : Row → Bool) (columns : Row → Row) (shown : T 
         (all-permutation IsRead (rows_in x) (map columns (filter meets table)) (IsPermutation-sym _ _ rows)
         (each_read (rows_in x) (items b) shows good)))
 
-  -- the same where what was found is told as it is, or in short
-  pub met_as_found : {X B Z E F G : Type 0} (table : List Row) (rows_in : X → List Row) (items : B → List T)
-      (outcome : Result X E) (found : Result B F) (result : Result Z G) → (IsOk found → IsOk outcome)
-      → (IsOk result → IsOk found)
+  -- the same where what was found is told as it is
+  pub met_as_found : {X B E F : Type 0} (table : List Row) (rows_in : X → List Row) (items : B → List T)
+      (outcome : Result X E) (found : Result B F) → (IsOk found → IsOk outcome)
       → IfOk found (λ b. IfOk outcome (λ x. AreShown Known shown (rows_in x) (items b)))
       → IfOk outcome (λ x. IsPermutation (map columns (filter meets table)) (rows_in x))
-      → IfOk result (λ z. AreMet meets columns shown Known table)
-  met_as_found table rows_in items outcome found (Err g) ok_found ok_result shows rows = tt
-  met_as_found table rows_in items outcome (Err f) (Ok z) ok_found ok_result shows rows =
-      absurd (let impossible = ok_result refl in cc)
-  met_as_found table rows_in items (Err e) (Ok b) (Ok z) ok_found ok_result shows rows =
-      absurd (let impossible = ok_found refl in cc)
-  met_as_found table rows_in items (Ok x) (Ok b) (Ok z) ok_found ok_result shows rows =
+      → IfOk found (λ b. AreMet meets columns shown Known table)
+  met_as_found table rows_in items outcome found ok =
+      told outcome found ok _ _ _ (λ x b shows rows.
       each_met Known (filter meets table)
       (all-permutation (IsRead Known) (rows_in x) (map columns (filter meets table)) (IsPermutation-sym _ _ rows)
-      (each_read Known (rows_in x) (items b) shows (all_known shown Known (rows_in x) (items b) shows)))
+      (each_read Known (rows_in x) (items b) shows (all_known shown Known (rows_in x) (items b) shows))))
 
 -- ---- the row of a number, of whichever table has numbers as keys
 
 -- how a number is asked for: as itself, or as one that no column has
-abbrev pub IsFitting : ℕ → ℤ → Type 0
-IsFitting n k = n < 2 ^ 63 → k ≡ pos n
+abbrev pub IsFitting : ℕ → Value → Type 0
+IsFitting n k = n < 2 ^ 63 → k ≡ whole n
 
-abbrev pub IsTooLarge : ℕ → ℤ → Type 0
-IsTooLarge n k = 2 ^ 63 ≤ n → k ≡ negsuc 0
+abbrev pub IsTooLarge : ℕ → Value → Type 0
+IsTooLarge n k = 2 ^ 63 ≤ n → k ≡ Int (negsuc 0)
 
 module _ (r : Reading) (layout : Layout) (tree : ℕ) where
   -- a query shows so the row of a number, of members whose rows the table holds
   abbrev pub ShowsAt : {A : Type 0} → (A → ℕ) → (A → Row) → (A → Row) → Type 1
   ShowsAt {A} key stored show =
-      (n : ℕ) (k : ℤ) → IsFitting n k → IsTooLarge n k → (old new : State) (rows : List Row)
-      → old.now.schema ≡ schema_of layout → Shown (reading_text r) (Int k ∷ []) old new rows
+      (n : ℕ) (k : Value) → IsFitting n k → IsTooLarge n k → (old new : State) (rows : List Row)
+      → old.now.schema ≡ schema_of layout → Shown (reading_text r) (k ∷ []) old new rows
       → (list : List A) (kept : AreKept key stored (old.now.trees tree) list)
       → IsPermutation (map show (keyed key n kept.ordered)) rows
 
   -- it shows so the row under a number, whatever that is
   abbrev pub MeetsUnder : (Row → Row) → Type 1
   MeetsUnder columns =
-      (n : ℕ) (k : ℤ) → n < 2 ^ 63 → IsFitting n k → (old new : State) (rows : List Row)
-      → old.now.schema ≡ schema_of layout → Shown (reading_text r) (Int k ∷ []) old new rows
+      (n : ℕ) (k : Value) → n < 2 ^ 63 → IsFitting n k → (old new : State) (rows : List Row)
+      → old.now.schema ≡ schema_of layout → Shown (reading_text r) (k ∷ []) old new rows
       → IsPermutation (map columns (filter (is_under n) (old.now.trees tree))) rows
 
   module _ (project : List Term) (is : reading_query r layout ≡ simple tree (equals 0 0 ∷ []) project)
       (seen : (trees : Trees) → overlay trees [] tree ≡ trees tree) where
     pub rows_under : (columns : Row → Row)
-        → ((k : ℤ) (row : Row) → eval_all project ((Int k ∷ []) ∷ row ∷ []) ≡ columns row)
+        → ((k : Value) (row : Row) → eval_all project ((k ∷ []) ∷ row ∷ []) ≡ columns row)
         → MeetsUnder columns
     rows_under columns shows n k low fits old new rows schema h =
-        selected (Int k ∷ []) (λ (r : Row). r) (is_under n) (equals 0 0 ∷ [])
+        selected (k ∷ []) (λ (r : Row). r) (is_under n) (equals 0 0 ∷ [])
         (λ r. rw (fits low) (and_true _ ∙ test_whole (column r 0) n)) tree project columns (shows k)
         (overlay old.now.trees []) (old.now.trees tree) rows (seen old.now.trees ∙ map_same _)
-        (answers_as r layout (Int k ∷ []) old new rows schema h _ is)
+        (answers_as r layout (k ∷ []) old new rows schema h _ is)
 
     module _ {A : Type 0} (key : A → ℕ) (stored show : A → Row) (rowid_is : (a : A) → rowid (stored a) ≡ whole (key a))
-        (shows : (k : ℤ) (a : A) → eval_all project ((Int k ∷ []) ∷ stored a ∷ []) ≡ show a) where
-      pub rows_by : (k : ℤ) (p : A → Bool)
-          → ((a : A) → is_true (binary (Compare Eq Binary) (whole (key a)) (Int k)) ≡ p a)
+        (shows : (k : Value) (a : A) → eval_all project ((k ∷ []) ∷ stored a ∷ []) ≡ show a) where
+      pub rows_by : (k : Value) (p : A → Bool)
+          → ((a : A) → is_true (binary (Compare Eq Binary) (whole (key a)) k) ≡ p a)
           → (old new : State) (rows : List Row) → old.now.schema ≡ schema_of layout
-          → Shown (reading_text r) (Int k ∷ []) old new rows
+          → Shown (reading_text r) (k ∷ []) old new rows
           → (list : List A) (kept : AreKept key stored (old.now.trees tree) list)
           → IsPermutation (map show (filter p kept.ordered)) rows
       rows_by k p tests old new rows schema h list kept =
-          selected (Int k ∷ []) stored p (equals 0 0 ∷ [])
-          (λ a. and_true _ ∙ subst (λ v. is_true (binary (Compare Eq Binary) v (Int k)) ≡ p a) (sym (rowid_is a))
+          selected (k ∷ []) stored p (equals 0 0 ∷ [])
+          (λ a. and_true _ ∙ subst (λ v. is_true (binary (Compare Eq Binary) v k) ≡ p a) (sym (rowid_is a))
           (tests a))
           tree project show (shows k) (overlay old.now.trees []) kept.ordered rows (seen old.now.trees ∙ kept.rows_are)
-          (answers_as r layout (Int k ∷ []) old new rows schema h _ is)
+          (answers_as r layout (k ∷ []) old new rows schema h _ is)
 
       pub rows_at : ShowsAt key stored show
       rows_at n k fits large old new rows schema h list kept = elim (small_or_large n) [

@@ -1,18 +1,17 @@
 -- The queries of a store: their texts, and what these mean whichever way its tables lie.
-use Rattle.std.proofs.Common.{Result, IfOk, IfErr, IsOk, ◌≡◌, refl, Some, [], ◌∷◌, ◌++◌, List, ℕ, codes, pos, false}
-use Rattle.std.proofs.Common.{true, subst}
-use Rattle.sqlite.specs.Listing.{understood}
-use Rattle.sqlite_resolve.specs.Compile.{first}
+use Rattle.std.proofs.Common.{◌≡◌, refl, Some, [], ◌∷◌, ◌++◌, List, ℕ, codes, pos}
+use Rattle.std.proofs.Common.{false, subst}
+use Rattle.sqlite_resolve.specs.Compile.{compiled, first}
 use Rattle.sqlite_sql.specs.declared.aggregate.AggregateOp.TheVariants.{Max}
 use Rattle.sqlite_tied.specs.Compute.{everything}
-use Rattle.acvp_store.proofs.Words.{Binary, case, col, command_of, CommitsShowing, Compare, Created, Eq, Error}
-use Rattle.acvp_store.proofs.Words.{FailsToQuery, Ge, HasCleanDisk, Int, Is, IsAnswer, IsPlain, IsRead, IsReady, Layout}
-use Rattle.acvp_store.proofs.Words.{Le, lit, Migrated, Ne, Null, op2, Or, overlay, Query, reads_as, reads_listing}
-use Rattle.acvp_store.proofs.Words.{reviewer_tree, Row, schema_of, Select, set_tree, Shown, State, Survives, Term}
+use Rattle.acvp_store.specs.Private.Queries.{IsQuery}
+use Rattle.acvp_store.proofs.Words.{Binary, case, col, Command, Compare, Created, Eq}
+use Rattle.acvp_store.proofs.Words.{Ge, Int, Is, IsAnswer, Layout}
+use Rattle.acvp_store.proofs.Words.{Le, lit, Migrated, Ne, Null, op2, Or, overlay, Query, reads_as}
+use Rattle.acvp_store.proofs.Words.{reviewer_tree, Row, schema_of, Select, set_tree, Shown, State, Term}
 use Rattle.acvp_store.proofs.QueryForms.{equals, first_where, newest, not_between, ordered_by, outside, paging, simple}
 use Rattle.acvp_store.proofs.QueryForms.{within}
-use Rattle.acvp_store.proofs.QueryLeaves.{reads}
-use Rattle.acvp_store.proofs.Silent.{asks}
+use Rattle.acvp_store.proofs.Compiled.{as_compiled, IsCompiled}
 
 pub data Reading : Type 0 where
   -- by a number
@@ -255,44 +254,31 @@ reading_names _ = codes "session" ∷ []
 
 -- ---- what the texts mean
 
-abbrev IsUnderstood : Layout → Reading → Type 0
-IsUnderstood layout r =
-    (command_of (understood (schema_of layout) (reading_text r)) ≡
-    Select (record { lets = []; body = reading_query r layout }) (reading_names r)) ×
-    IsPlain (understood (schema_of layout) (reading_text r)) ×
-    (reads_listing (schema_of layout) (reading_text r) ≡ false)
+abbrev reading_command : Reading → Layout → Command
+reading_command r layout = Select (record { lets = []; body = reading_query r layout }) (reading_names r)
 
-is_understood : (layout : Layout) (r : Reading) → IsUnderstood layout r
-unfolding understood everything
-is_understood Created AccountAt = (refl, (refl, refl), refl)
-is_understood Migrated AccountAt = (refl, (refl, refl), refl)
-is_understood _ _ = (refl, (refl, refl), refl)
+is_compiled : (layout : Layout) (r : Reading)
+    → IsCompiled (compiled (schema_of layout) (reading_text r)) (reading_command r layout)
+unfolding compiled everything
+is_compiled Created AccountAt = (refl, refl, refl)
+is_compiled Migrated AccountAt = (refl, refl, refl)
+is_compiled _ _ = (refl, refl, refl)
 
-pub asks_rows : (r : Reading) → asks (first (reading_text r)) ≡ true
+pub is_query : (r : Reading) → IsQuery (reading_text r)
 unfolding first everything
-asks_rows AccountAt = refl
-asks_rows _ = refl
+is_query AccountAt = refl
+is_query _ = refl
 
 -- so the rows that it shows are an answer of its query
 pub answers : (r : Reading) (layout : Layout) (params : Row) (old new : State) (rows : List Row)
     → old.now.schema ≡ schema_of layout → Shown (reading_text r) params old new rows
     → IsAnswer (reading_query r layout) (overlay old.now.trees []) params rows
 answers r layout params old new rows schema h =
-    let is = is_understood layout r in
-    (reads_as (reading_text r) params old new (schema_of layout) schema _ is.0 is.1 is.2 rows h).answer Null
+    let is = as_compiled (schema_of layout) (reading_text r) (reading_command r layout) (is_compiled layout r) in
+    (reads_as (reading_text r) params old new (schema_of layout) schema _ is.0.0 is.0.1 is.1 rows h).answer Null
 
 pub answers_as : (r : Reading) (layout : Layout) (params : Row) (old new : State) (rows : List Row)
     → old.now.schema ≡ schema_of layout → Shown (reading_text r) params old new rows
     → (q : Query) → reading_query r layout ≡ q → IsAnswer q (overlay old.now.trees []) params rows
 answers_as r layout params old new rows schema h q is =
     subst (λ q. IsAnswer q (overlay old.now.trees []) params rows) is (answers r layout params old new rows schema h)
-
--- a query leaves the store as it is, and so does what is made of its answer
-pub reads_rows : (r : Reading) (params : Row) (old new : State)
-    → Survives old new (CommitsShowing (reading_text r) params old)
-    → (new.is_clean ≡ false → new.is_open ≡ false) → IsReady old
-    → {X Y F : Type 0} (result : Result X Error) (rows_of : X → List Row)
-    → (HasCleanDisk new → IfOk result (λ x. Shown (reading_text r) params old new (rows_of x)))
-    → (HasCleanDisk new → IfErr result (FailsToQuery (reading_text r) params old new))
-    → (told : Result Y F) → (IsOk told → IsOk result) → IsRead told old new
-reads_rows r params old new kept law ready = reads (reading_text r) params old new law ready (asks_rows r) kept

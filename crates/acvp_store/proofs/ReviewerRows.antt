@@ -1,10 +1,12 @@
 -- The statements on reviewers.
-use Rattle.std.proofs.Common.{inl, inr, ◌<◌, ◌≤◌, ◌^◌, ℤ, pos, negsuc, ◌≡◌, ℕ, List, [], ◌∷◌, ◌++◌, map, length, Bool}
+use Rattle.acvp_store.proofs.QueryRows.{IsFitting, IsTooLarge}
+use Rattle.std.proofs.Common.{inl, inr, ◌<◌, ◌≤◌, ◌^◌, ℤ, negsuc, ◌≡◌, ℕ, List, [], ◌∷◌, ◌++◌, map, length, Bool}
 use Rattle.std.proofs.Common.{true, false, not, Option, None, Ok, Result, IfOk, IsOk, refl, sym, ap, subst, ◌∙◌, arith}
 use Rattle.std.proofs.Common.{◌+◌, zero, suc}
 use Rattle.std.specs.Prelude.{◌==◌, ◌&&◌, if◌then◌else◌}
 use Rattle.sqlite_value.specs.Keys.{first_key}
 use Rattle.acvp_tables.specs.Content.{account_numbers, reviewers_of}
+use Rattle.acvp_store.proofs.Words.{⊤}
 use Rattle.acvp_store.proofs.Words.{agree, all-append, all-filter, all-permutation, AllByRecursion, Alters, append-nil}
 use Rattle.acvp_store.proofs.Words.{AreWellNumbered, ascending-filter, AtPlace, cases_Bool, cast_row, Chosen, clashes}
 use Rattle.acvp_store.proofs.Words.{Content, Created, Database, Delete, Does, edit_of, Enforced, Entry, entry_row}
@@ -16,7 +18,7 @@ use Rattle.acvp_store.proofs.Words.{IsPermutation-sym, IsPermutation-trans, Layo
 use Rattle.acvp_store.proofs.Words.{list_any, map-map, Migrated, nat_le, nat_lt, nat_tests, Null, OnRows, overlay}
 use Rattle.acvp_store.proofs.Words.{passes, plain, range_with_len, reviewer_columns, reviewer_table, reviewer_tree}
 use Rattle.acvp_store.proofs.Words.{ReviewerRow, Row, schema_of, Shown, State, Table, Tally, Trees, Unique, Values}
-use Rattle.acvp_store.proofs.Words.{whole, with_reviewer, without_all, Writes}
+use Rattle.acvp_store.proofs.Words.{whole, with_reviewer, without_all, Writes, Value}
 use Rattle.acvp_store.proofs.Effects.{deleted_rows, inserted_rows, mode, task_of, under_schema, not_false}
 use Rattle.acvp_store.proofs.Entries.{entry_for, map_last, rows_put, puts, was_free, removed, takes}
 use Rattle.acvp_store.proofs.Idle.{applied}
@@ -30,13 +32,13 @@ use Rattle.acvp_store.proofs.Writings.{writing_command, writing_terms}
 use Rattle.sqlite_keyed.proofs.ListLemmas.{filter-map}
 use Rattle.acvp_tables.specs.Private.Ascending.{with_number, ascending}
 use Rattle.acvp_tables.proofs.Reviewers.{accounts_in, reviewers_read}
-use Rattle.acvp_store.proofs.Told.{told}
+use Rattle.acvp_store.proofs.Told.{told, unread}
 use Rattle.acvp_store.proofs.OrderedRows.{ranged}
 
 -- ---- whether one is there
 
-abbrev pub pair_params : ℤ → ℕ → Row
-pair_params k account = Int k ∷ whole account ∷ []
+abbrev pub pair_params : Value → ℕ → Row
+pair_params k account = k ∷ whole account ∷ []
 
 abbrev FitsColumn : ReviewerRow → Type 0
 FitsColumn r = r.session < 2 ^ 63
@@ -68,7 +70,7 @@ none_paired r (e ∷ es) high low =
 module _ (layout : Layout) (r : ReviewerRow) (old new : State) (rows : List Row)
     (schema : old.now.schema ≡ schema_of layout) (list : List ReviewerRow)
     (h : HoldsReviewers (old.now.trees (reviewer_tree layout)) list) where
-  rows_by : (k : ℤ) (p : Entry ReviewerRow → Bool)
+  rows_by : (k : Value) (p : Entry ReviewerRow → Bool)
       → ((e : Entry ReviewerRow) → list_all (holds (pair_params k r.account ∷ entry_row reviewer_columns e ∷ []))
       (reading_query ReviewerAt layout).filter ≡ p e)
       → Shown (reading_text ReviewerAt) (pair_params k r.account) old new rows
@@ -79,20 +81,20 @@ module _ (layout : Layout) (r : ReviewerRow) (old new : State) (rows : List Row)
       (overlay old.now.trees []) h.kept.entries rows (reviewers_seen layout old.now.trees ∙ h.kept.rows_are)
       (answers ReviewerAt layout (pair_params k r.account) old new rows schema shown)
 
-  pub reviewer_rows : (k : ℤ) → (r.session < 2 ^ 63 → k ≡ pos r.session) → (2 ^ 63 ≤ r.session → k ≡ negsuc 0)
+  pub reviewer_rows : (k : Value) → IsFitting r.session k → IsTooLarge r.session k
       → Shown (reading_text ReviewerAt) (pair_params k r.account) old new rows
       → IsPermutation (map (λ (e : Entry ReviewerRow). whole e.row.account ∷ [])
       (filter (λ e. is_pair r e.row) h.kept.entries)) rows
   reviewer_rows k fits large shown = elim (small_or_large r.session) [
     | inl low ↦
         let at = subst (λ k. Shown (reading_text ReviewerAt) (pair_params k r.account) old new rows) (fits low) shown in
-        rows_by (pos r.session) (λ e. is_pair r e.row)
+        rows_by (whole r.session) (λ e. is_pair r e.row)
         (λ e. both_true _ _ (e.row.session == r.session) (e.row.account == r.account)
         (test_equals e.row.session r.session) (test_equals e.row.account r.account)) at
     | inr high ↦
         let at = subst (λ k. Shown (reading_text ReviewerAt) (pair_params k r.account) old new rows) (large high)
         shown in
-        let none = rows_by (negsuc 0) (λ e. false)
+        let none = rows_by (Int (negsuc 0)) (λ e. false)
         (λ e. both_true _ _ false (e.row.account == r.account) (test_none e.row.session)
         (test_equals e.row.account r.account)) at in
         let empty : filter (λ (e : Entry ReviewerRow). false) h.kept.entries
@@ -284,34 +286,34 @@ none_reviews s (r ∷ list) high low =
 module _ (layout : Layout) (s : ℕ) (old new : State) (rows : List Row) (schema : old.now.schema ≡ schema_of layout)
     (list : List ReviewerRow) (h : HoldsReviewers (old.now.trees (reviewer_tree layout)) list) (numbers : List ℕ)
     (rise : Rising numbers) where
-  listed_by : (k : ℤ) (p : Entry ReviewerRow → Bool)
-      → ((e : Entry ReviewerRow) → list_all (holds ((Int k ∷ []) ∷ entry_row reviewer_columns e ∷ []))
+  listed_by : (k : Value) (p : Entry ReviewerRow → Bool)
+      → ((e : Entry ReviewerRow) → list_all (holds ((k ∷ []) ∷ entry_row reviewer_columns e ∷ []))
       (reading_query ReviewersOf layout).filter ≡ p e)
-      → Shown (reading_text ReviewersOf) (Int k ∷ []) old new rows
+      → Shown (reading_text ReviewersOf) (k ∷ []) old new rows
       → IsPermutation (map (λ (e : Entry ReviewerRow). e.row.account) (filter p h.kept.entries)) numbers
       → rows ≡ map account_shown numbers
   listed_by k p tests shown same =
-      ranged (Int k ∷ []) (entry_row reviewer_columns) p (reading_query ReviewersOf layout).filter tests
+      ranged (k ∷ []) (entry_row reviewer_columns) p (reading_query ReviewersOf layout).filter tests
       (λ e. e.row.account) (λ n. n) account_shown
       2 (reviewer_tree layout) (reading_query ReviewersOf layout).project (λ e. refl) (λ e. refl)
       (overlay old.now.trees []) h.kept.entries numbers rows (reviewers_seen layout old.now.trees ∙ h.kept.rows_are)
       same rise
-      (answers ReviewersOf layout (Int k ∷ []) old new rows schema shown)
+      (answers ReviewersOf layout (k ∷ []) old new rows schema shown)
 
-  pub session_rows : (k : ℤ) → (s < 2 ^ 63 → k ≡ pos s) → (2 ^ 63 ≤ s → k ≡ negsuc 0)
-      → Shown (reading_text ReviewersOf) (Int k ∷ []) old new rows → IsPermutation (accounts_in s list) numbers
+  pub session_rows : (k : Value) → IsFitting s k → IsTooLarge s k
+      → Shown (reading_text ReviewersOf) (k ∷ []) old new rows → IsPermutation (accounts_in s list) numbers
       → rows ≡ map account_shown numbers
   session_rows k fits large shown same = elim (small_or_large s) [
     | inl low ↦
-        let at = subst (λ k. Shown (reading_text ReviewersOf) (Int k ∷ []) old new rows) (fits low) shown in
-        listed_by (pos s) (λ e. e.row.session == s)
+        let at = subst (λ k. Shown (reading_text ReviewersOf) (k ∷ []) old new rows) (fits low) shown in
+        listed_by (whole s) (λ e. e.row.session == s)
         (λ e. rw test_equals (and_true _)) at (IsPermutation-trans _ (accounts_in s list) _
         (told h.kept.entries h.kept.same) same)
     | inr high ↦
-        let at = subst (λ k. Shown (reading_text ReviewersOf) (Int k ∷ []) old new rows) (large high) shown in
+        let at = subst (λ k. Shown (reading_text ReviewersOf) (k ∷ []) old new rows) (large high) shown in
         let none = none_left numbers (rw (none_reviews s list high h.fits) at same) in
         let empty : filter (λ (e : Entry ReviewerRow). false) h.kept.entries ≡ [] = none_passes h.kept.entries in
-        listed_by (negsuc 0) (λ e. false) (λ e. rw test_none refl) at (rw (empty, none) (IsPermutation-refl []))
+        listed_by (Int (negsuc 0)) (λ e. false) (λ e. rw test_none refl) at (rw (empty, none) (IsPermutation-refl []))
   ]
     where
       told : (es : List (Entry ReviewerRow)) → IsPermutation (map (λ e. e.row) es) list
@@ -372,12 +374,13 @@ reviewers_rise s rows = ascending-filter (λ m n. m < n) (λ account. is_reviewe
 
 module _ {X L E F : Type 0} (s : ℕ) (table : List Row) (rows_in : X → List Row) (listed : L → List ℕ) where
   pub find_all : (outcome : Result X E) (result : Result L F) → (IsOk result → IsOk outcome)
-      → IfOk result (λ l. IfOk outcome (λ x. (list : List ℕ) → rows_in x ≡ map account_shown list → listed l ≡ list))
+      → IfOk result (λ l. IfOk outcome (λ x. (list : List ℕ) → AllByRecursion (λ _. ⊤) list
+      → rows_in x ≡ map account_shown list → listed l ≡ list))
       → IfOk outcome (λ x. (list : List ReviewerRow) → HoldsReviewers table list → (numbers : List ℕ) → Rising numbers
       → IsPermutation (accounts_in s list) numbers → rows_in x ≡ map account_shown numbers)
       → IfOk result (λ l. (c : Content) → AreWellNumbered c → HoldsReviewers table c.reviewers
       → listed l ≡ reviewers_of s c.reviewers)
   find_all outcome result ok =
       told outcome result ok _ _ _
-      (λ x l lists rows. λ c sound h. lists (reviewers_of s c.reviewers)
+      (λ x l lists rows. λ c sound h. lists (reviewers_of s c.reviewers) (unread _)
       (rows c.reviewers h (reviewers_of s c.reviewers) (reviewers_rise s c.reviewers) (reviewers_same s c sound)))

@@ -1,13 +1,15 @@
 -- Which rows a query by a number or a session's range meets, and that those of vector sets are judged.
-use Rattle.std.proofs.Common.{◌≡◌, ◌<◌, ◌^◌, ◌+◌, ◌*◌, ℕ, ℤ, pos, List, [], ◌∷◌, map, Option, Some, None, refl, ◌∙◌}
+use Rattle.std.proofs.Common.{◌≡◌, ◌<◌, ◌^◌, ◌+◌, ◌*◌, ℕ, List, [], ◌∷◌, map, Option, Some, None, refl, ◌∙◌}
 use Rattle.acvp_caps.specs.Capability.{CapabilityValue}
 use Rattle.acvp_store.proofs.Words.{account_columns, account_tree, AllByRecursion, AllZip, capability_column, col}
-use Rattle.acvp_store.proofs.Words.{column, columns_of_object, eval_all, filter, Int, is_live_row, is_of, IsJudged}
+use Rattle.acvp_store.proofs.Words.{column, columns_of_object, eval_all, filter, is_live_row, is_of, IsJudged}
 use Rattle.acvp_store.proofs.Words.{IsJudgedWhole, IsOfCapability, IsPermutation, IsSummary, IsSummaryOf, Layout}
 use Rattle.acvp_store.proofs.Words.{object_tree, option_to_list, overlay, read_columns, ReadColumns, request_columns}
 use Rattle.acvp_store.proofs.Words.{request_tree, Row, schema_of, session_columns, session_tree, set_tree, SetSummary}
 use Rattle.acvp_store.proofs.Words.{short_columns, ShortColumns, Shown, State, status_columns, TellsCapability, whole}
-use Rattle.acvp_store.proofs.QueryRows.{test_from, test_until, test_other, selected_in_order, MeetsUnder, rows_under}
+use Rattle.acvp_store.proofs.Words.{Value}
+use Rattle.acvp_store.proofs.QueryRows.{IsFitting, test_from, test_until, test_other, selected_in_order, MeetsUnder}
+use Rattle.acvp_store.proofs.QueryRows.{rows_under}
 use Rattle.acvp_store.proofs.QueryForms.{equals}
 use Rattle.acvp_store.proofs.Readings.{AccountAt, CapabilityAt, ObjectAt, RequestAt, SessionAt, SetAt, SetsOf, StatusAt}
 use Rattle.acvp_store.proofs.Readings.{account_terms, answers, live_terms, object_terms, read_terms, reading_text}
@@ -81,13 +83,13 @@ status_met layout = rows_under StatusAt layout request_tree status_terms refl (�
 
 -- ---- objects
 
-pub object_met : (layout : Layout) (kind n : ℕ) (k : ℤ) → n < 2 ^ 63 → (n < 2 ^ 63 → k ≡ pos n)
+pub object_met : (layout : Layout) (kind n : ℕ) (k : Value) → n < 2 ^ 63 → IsFitting n k
     → (old new : State) (rows : List Row) → old.now.schema ≡ schema_of layout
-    → Shown (reading_text ObjectAt) (whole kind ∷ Int k ∷ []) old new rows
+    → Shown (reading_text ObjectAt) (whole kind ∷ k ∷ []) old new rows
     → IsPermutation (map columns_of_object (filter (is_of kind n) (old.now.trees object_tree))) rows
 object_met layout kind n k low fits old new rows schema h =
-    selected (whole kind ∷ Int k ∷ []) (λ (r : Row). r) (is_of kind n) (equals 1 0 ∷ equals 2 1 ∷ [])
+    selected (whole kind ∷ k ∷ []) (λ (r : Row). r) (is_of kind n) (equals 1 0 ∷ equals 2 1 ∷ [])
     (λ r. both_true _ _ _ _ (test_whole (column r 1) kind) (rw (fits low) (test_whole (column r 2) n))) object_tree
     object_terms columns_of_object (λ r. refl)
     (overlay old.now.trees []) (old.now.trees object_tree) rows (map_same _)
-    (answers ObjectAt layout (whole kind ∷ Int k ∷ []) old new rows schema h)
+    (answers ObjectAt layout (whole kind ∷ k ∷ []) old new rows schema h)

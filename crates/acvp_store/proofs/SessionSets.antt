@@ -6,6 +6,7 @@ use Rattle.sqlite.specs.Ops.{binary}
 use Rattle.acvp_tables.specs.State.{state_of}
 use Rattle.acvp_tables.proofs.Numbers.{keyed, sets_numbered}
 use Rattle.acvp_tables.proofs.Selections.{sets_follow}
+use Rattle.acvp_store.proofs.Words.{⊤}
 use Rattle.acvp_store.proofs.Words.{AllByRecursion, AllZip, AreKept, AreWellNumbered, ascending-filter, Binary}
 use Rattle.acvp_store.proofs.Words.{cases_Bool, Compare, Content, filter, first_of_session, flag, HoldsSets, ints}
 use Rattle.acvp_store.proofs.Words.{is_ne, is_true, IsAscending, IsPermutation, IsPermutation-filter, IsSet, IsSummary}
@@ -19,7 +20,7 @@ use Rattle.acvp_store.proofs.SelectedRows.{truth_back, test_differs, test_at_lea
 use Rattle.acvp_store.proofs.SetRows.{set_shown, short_shows, summary_is}
 use Rattle.acvp_store.proofs.Places.{sets_seen}
 use Rattle.acvp_store.proofs.Readings.{SetsOf, answers, reading_query, reading_text}
-use Rattle.acvp_store.proofs.Told.{told_through}
+use Rattle.acvp_store.proofs.Told.{told_through, unread}
 
 -- a number of a session's sets, of one that isn't cancelled
 abbrev pub is_live_within : ℕ → ℕ → Bool → Bool
@@ -188,8 +189,8 @@ module _ {X L M E F G : Type 0} (s : ℕ) (table : List Row) (rows_in : X → Li
     (told : M → List SetSummary) where
   pub find_live : (outcome : Result X E) (found : Result L F) (result : Result M G) → (IsOk found → IsOk outcome)
       → (IsOk result → IsOk found)
-      → IfOk found (λ l. IfOk outcome (λ x. (list : List ShortColumns) → rows_in x ≡ map short_shown list
-      → listed l ≡ list))
+      → IfOk found (λ l. IfOk outcome (λ x. (list : List ShortColumns) → AllByRecursion (λ _. ⊤) list
+      → rows_in x ≡ map short_shown list → listed l ≡ list))
       → IfOk result (λ m. IfOk found (λ l. AllZip IsSummary (listed l) (told m)))
       → IfOk outcome (λ x. (columns : List SetColumns) → AreKept set_key set_row table columns
       → Rising (filter (is_live_set s) columns) → rows_in x ≡ map set_shown (filter (is_live_set s) columns))
@@ -202,5 +203,5 @@ module _ {X L M E F G : Type 0} (s : ℕ) (table : List Row) (rows_in : X → Li
       subst (AllZip IsSet columns) (live_is s c sound) (zip_live s h.columns c.sets h.same) in
       let shown = rows h.columns h.kept (rise_zipped columns (live_sets s c.sets) zip (live_rise s c sound)) in
       let is : listed l ≡ map short_of columns =
-      lists (map short_of columns) (shown ∙ sym (map-map short_shown short_of columns)) in
+      lists (map short_of columns) (unread _) (shown ∙ sym (map-map short_shown short_of columns)) in
       all_told columns (live_sets s c.sets) (told m) zip (subst (λ list. AllZip IsSummary list (told m)) is tells))

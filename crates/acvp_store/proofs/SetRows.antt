@@ -1,5 +1,5 @@
 -- The statements on vector sets.
-use Rattle.std.proofs.Common.{◌≡◌, inl, inr, ◌<◌, ◌^◌, ℕ, ℤ, List, [], ◌∷◌, ◌++◌, ◌+◌, ◌*◌, map, length, append_assoc}
+use Rattle.std.proofs.Common.{◌≡◌, inl, inr, ◌<◌, ◌^◌, ℕ, List, [], ◌∷◌, ◌++◌, ◌+◌, ◌*◌, map, length, append_assoc}
 use Rattle.std.proofs.Common.{true, false, Option, Some, None, Ok, Result, IfOk, IsOk, slice_get, refl, sym, ap, subst}
 use Rattle.std.proofs.Common.{◌∙◌, arith}
 use Rattle.std.specs.Prelude.{◌==◌, if◌then◌else◌}
@@ -9,15 +9,16 @@ use Rattle.acvp_answers.specs.Verdicts.{disposition_of}
 use Rattle.acvp_answers.specs.declared.verdict.Verdict.{Verdict}
 use Rattle.acvp_answers.specs.declared.verdict.Disposition.{Disposition}
 use Rattle.acvp_answers.specs.declared.verdict.Disposition.TheVariants.{Passed, Fail, Missing}
+use Rattle.acvp_store.proofs.Words.{AllByRecursion, ⊤}
 use Rattle.acvp_store.proofs.Words.{AddsSets, AllZip, Alters, AreKept, AreVerdictsOf, Binary, binary, Both}
 use Rattle.acvp_store.proofs.Words.{cancelled_set, cases_Bool, cast_row, changed, col, Database, disposition_number}
-use Rattle.acvp_store.proofs.Words.{Does, eval_all, find, flag, GradedValue, HoldsSets, Int, Is, is_none, is_set}
+use Rattle.acvp_store.proofs.Words.{Does, eval_all, find, flag, GradedValue, HoldsSets, Is, is_none, is_set}
 use Rattle.acvp_store.proofs.Words.{IsDispositionOf, IsGiven, IsGradedAs, IsPermutation, IsSet, IsSummary, IsSummaryOf}
 use Rattle.acvp_store.proofs.Words.{kept_answers, kept_text, Layout, map-map, mode_of, new_set, new_sets, Null}
 use Rattle.acvp_store.proofs.Words.{option_map, or_null, read_of, read_shown, Row, schema_of, set_at, set_key, set_row}
 use Rattle.acvp_store.proofs.Words.{set_summary, set_table, set_tree, set_verdicts, SetColumns, SetRow, SetSummary}
 use Rattle.acvp_store.proofs.Words.{short_of, short_shown, ShortColumns, State, Tally, TellsCapability, Term, Text}
-use Rattle.acvp_store.proofs.Words.{text_shown, UnderStore, verdicts_text, whole, with_graded, zip_push}
+use Rattle.acvp_store.proofs.Words.{text_shown, UnderStore, verdicts_text, whole, with_graded, zip_push, Value}
 use Rattle.acvp_store.proofs.Keyed.{keyed, changing, keyed_same, find_is}
 use Rattle.acvp_store.proofs.Parts.{cast_null, cast_whole, cast_flag, cast_option, cast_text_option}
 use Rattle.acvp_store.proofs.SelectedRows.{null_flag}
@@ -29,7 +30,7 @@ use Rattle.acvp_store.proofs.Readings.{short_terms}
 use Rattle.acvp_store.proofs.Writings.{Effects, SetAdded, SetCancelled, SetGraded, set_place, update, updating}
 use Rattle.acvp_store.proofs.Writings.{writing_terms}
 use Rattle.acvp_store.proofs.QueryRows.{ShowsAt, rows_at}
-use Rattle.acvp_store.proofs.Told.{told_through}
+use Rattle.acvp_store.proofs.Told.{told_through, unread}
 
 abbrev pub set_shown : SetColumns → Row
 set_shown c = short_shown (short_of c)
@@ -56,7 +57,7 @@ not_given c text number v n none (Some d) is =
 
 set_rows_at : (r : Reading) (layout : Layout) (project : List Term) → reading_query r layout
     ≡ simple (set_tree layout) (equals 0 0 ∷ []) project
-    → (show : SetColumns → Row) → ((k : ℤ) (c : SetColumns) → eval_all project ((Int k ∷ []) ∷ set_row c ∷ []) ≡ show c)
+    → (show : SetColumns → Row) → ((k : Value) (c : SetColumns) → eval_all project ((k ∷ []) ∷ set_row c ∷ []) ≡ show c)
     → ShowsAt r layout (set_tree layout) set_key set_row show
 set_rows_at r layout project is show shows =
     rows_at r layout (set_tree layout) project is (sets_seen layout) set_key set_row show (λ c. refl) shows
@@ -143,8 +144,8 @@ module _ {B Y : Type 0} (of : SetColumns → B) (Tells : Option B → Y → Type
   module _ {X Z E F G : Type 0} (shown : B → Row) (view : Z → Y) (table : List Row) (rows_in : X → List Row) where
     pub find_told : (outcome : Result X E) (found : Result (Option B) F) (result : Result Z G)
         → (IsOk found → IsOk outcome) → (IsOk result → IsOk found)
-        → IfOk found (λ b. IfOk outcome (λ x. (list : List B) → IsPermutation (map shown list) (rows_in x)
-        → b ≡ slice_get list 0))
+        → IfOk found (λ b. IfOk outcome (λ x. (list : List B) → AllByRecursion (λ _. ⊤) list
+        → IsPermutation (map shown list) (rows_in x) → b ≡ slice_get list 0))
         → IfOk result (λ z. IfOk found (λ b. Tells b (view z)))
         → IfOk outcome (λ x. (list : List SetColumns) (kept : AreKept set_key set_row table list)
         → IsPermutation (map (λ c. shown (of c)) (keyed set_key n kept.ordered)) (rows_in x))
@@ -152,7 +153,8 @@ module _ {B Y : Type 0} (of : SetColumns → B) (Tells : Option B → Y → Type
     find_told outcome found result ok_found ok_result =
         told_through outcome found result ok_found ok_result _ _ _ _ (λ x b z one tells rows sets h.
         let all = keyed set_key n h.kept.ordered in
-        let is : b ≡ slice_get (map of all) 0 = one (map of all) (rw (map-map shown of all) (rows h.columns h.kept)) in
+        let is : b ≡ slice_get (map of all) 0 = one (map of all)
+        (unread _) (rw (map-map shown of all) (rows h.columns h.kept)) in
         let at : b ≡ option_map of (find (λ (c : SetColumns). c.number == n) h.columns) =
         is ∙ first_of all ∙ ap (option_map of)
         (ap (λ l. slice_get l 0) (keyed_same set_key n h.kept.ordered h.columns h.kept.rising h.kept.same)

@@ -1,5 +1,5 @@
 -- A text that is a SELECT has no RETURNING, whatever the schema.
-use Rattle.std.proofs.Common.{◌≡◌, ℕ, ◌+◌, inl, inr, List, Bool, true, false, Option, None, Ok, Err, refl, sym, ap}
+use Rattle.std.proofs.Common.{◌≡◌, ℕ, ◌+◌, inl, inr, List, true, Option, None, Ok, Err, refl, sym, ap}
 use Rattle.std.proofs.Common.{subst, ◌∙◌}
 use Rattle.sqlite_ast.specs.declared.Statement.{Statement}
 use Rattle.sqlite_ast.specs.declared.Statement.TheVariants as written
@@ -11,17 +11,9 @@ use Rattle.sqlite_resolve.specs.declared.compiled.Compiled.{Compiled}
 use Rattle.sqlite.specs.Listing.{understood}
 use Rattle.sqlite.specs.State.{CommitsShowing}
 use Rattle.sqlite_trees.specs.Tree.{Trees}
+use Rattle.acvp_store.specs.Private.Queries.{asks, asks_by, IsQuery}
 use Rattle.acvp_store.proofs.Words.{cases_Bool, command, first, if_select, is_select, listing_schema, reads_listing}
 use Rattle.acvp_store.proofs.Words.{Row, small, State}
-
-abbrev pub asks_by : Statement → Bool
-asks_by (written.Select s) = true
-asks_by _ = false
-
--- the text is a SELECT
-abbrev pub asks : Checked Parsed → Bool
-asks (Ok p) = asks_by p.statement
-asks (Err e) = false
 
 -- a step that follows another was given its value
 through : {A B : Type 0} (a : Checked A) (f : A → Checked B) (b : B) → and_then a f ≡ Ok b → (x : A) × (a ≡ Ok x)
@@ -37,10 +29,10 @@ unfolding returning
 returns_nothing schema base (written.Select s) h = refl
 returns_nothing schema base _ h = absurd (cc)
 
-asked : (text : List ℕ) (p : Parsed) → first text ≡ Ok p → asks (first text) ≡ true → asks_by p.statement ≡ true
+asked : (text : List ℕ) (p : Parsed) → first text ≡ Ok p → IsQuery text → asks_by p.statement ≡ true
 asked text p is h = sym (ap asks is) ∙ h
 
-pub compiled_silent : (schema : Schema) (text : List ℕ) (c : Compiled) → asks (first text) ≡ true
+pub compiled_silent : (schema : Schema) (text : List ℕ) (c : Compiled) → IsQuery text
     → compiled schema text ≡ Ok c → c.returning ≡ None
 unfolding compiled planned meaning
 compiled_silent schema text c h is =
@@ -66,7 +58,7 @@ selected_silent (Ok d) c silent h = elim (cases_Bool (is_select d.command)) [
 ]
 selected_silent (Err e) c silent h = absurd (cc)
 
-pub silent : (schema : Schema) (text : List ℕ) (c : Compiled) → asks (first text) ≡ true → understood schema text ≡ Ok c
+pub silent : (schema : Schema) (text : List ℕ) (c : Compiled) → IsQuery text → understood schema text ≡ Ok c
     → c.returning ≡ None
 unfolding understood
 silent schema text c h is = elim (cases_Bool (reads_listing schema text)) [
@@ -76,7 +68,7 @@ silent schema text c h is = elim (cases_Bool (reads_listing schema text)) [
 ]
 
 -- so it commits nothing
-pub commits_nothing : (text : List ℕ) (params : Row) (s : State) (db : Trees) → asks (first text) ≡ true
+pub commits_nothing : (text : List ℕ) (params : Row) (s : State) (db : Trees) → IsQuery text
     → ¬ CommitsShowing text params s db
 unfolding CommitsShowing
 commits_nothing text params s db h shows = let none = silent s.now.schema text shows.0 h shows.1.is in

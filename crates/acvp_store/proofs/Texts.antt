@@ -1,5 +1,5 @@
 -- What the texts of the statements mean that make the tables, tell their version or migrate them.
-use Rattle.std.proofs.Common.{◌≡◌, refl, Ok, [], ◌∷◌, ◌++◌, List, ℕ, codes, pos, true, false}
+use Rattle.std.proofs.Common.{◌≡◌, refl, Ok, [], ◌∷◌, ◌++◌, List, ℕ, codes, pos, false}
 use Rattle.std.specs.Fmt.{digits}
 use Rattle.sqlite.specs.Change.{created}
 use Rattle.sqlite.specs.Compile.{table_defined_by}
@@ -9,12 +9,12 @@ use Rattle.sqlite_resolve.specs.Compile.{first}
 use Rattle.sqlite_tied.specs.Compute.{everything}
 use Rattle.acvp_store.specs.declared.setup.StoreTable.{StoreTable}
 use Rattle.acvp_store.specs.declared.setup.StoreTable.TheVariants as table
+use Rattle.acvp_store.specs.Private.Queries.{IsQuery}
 use Rattle.acvp_store.proofs.Words.{before, Binary, col, Command, command_of, Compare, Created, CreateTable, Delete, Eq}
 use Rattle.acvp_store.proofs.Words.{first_schema, Insert, Int, IsPlain, lit, Migrated, Null, op2, Query, reads_listing}
 use Rattle.acvp_store.proofs.Words.{Schema, schema_at, schema_of, SchemaVersion, Second, second_schema, Select}
 use Rattle.acvp_store.proofs.Words.{statement_of, table_of, Text, text_of, Third}
 use Rattle.acvp_store.proofs.QueryForms.{equals, simple, collated}
-use Rattle.acvp_store.proofs.Silent.{asks}
 
 -- ---- the tables
 
@@ -78,7 +78,7 @@ finds_version (Second Created) = (refl, (refl, refl), refl)
 finds_version (Third Created) = (refl, (refl, refl), refl)
 finds_version _ = (refl, (refl, refl), refl)
 
-pub find_version_asks : asks (first find_version) ≡ true
+pub find_version_asks : IsQuery find_version
 unfolding first everything
 find_version_asks = refl
 
@@ -98,7 +98,7 @@ pub old_sets_were : FindsOldSets (second_schema Migrated)
 unfolding understood everything
 old_sets_were = (refl, (refl, refl), refl)
 
-pub old_sets_asks : asks (first find_old_sets) ≡ true
+pub old_sets_asks : IsQuery find_old_sets
 unfolding first everything
 old_sets_asks = refl
 

@@ -8,10 +8,11 @@ use Rattle.sqlite.specs.Given.{IsPlain}
 use Rattle.sqlite.proofs.StateLemmas.{survives_then}
 use Rattle.sqlite_schema.specs.declared.schema.Schema.{Schema}
 use Rattle.acvp_store.proofs.Words.{Both, cases_Bool, Command, command_of, Created, Database, Does, Error}
-use Rattle.acvp_store.proofs.Words.{ExecutesInside, HasCleanDisk, IsInside, IsReady, IsRolledBack, IsWritten, Kept}
+use Rattle.acvp_store.proofs.Words.{ExecutesInside, HasCleanDisk, IsInside, IsPerformed, IsReady, IsRolledBack}
+use Rattle.acvp_store.proofs.Words.{IsWritten, Kept}
 use Rattle.acvp_store.proofs.Words.{Layout, mode_of, Row, Runs, runs_as, schema_of, Shows, State, statement_of, Stays}
 use Rattle.acvp_store.proofs.Words.{Survives, Tally, Under, understood, UnderStore}
-use Rattle.acvp_store.proofs.QueryLeaves.{clean_before, clean_if_open}
+use Rattle.acvp_store.proofs.QueryLeaves.{clean_before}
 
 inside_kept : (sql : List ℕ) (params : Row) (old new : State) (r : Result ℕ Error)
     → ExecutesInside 0 sql params old new r → Kept old new
@@ -30,47 +31,50 @@ kept_then a b c p q = record {
       ∙ p.committed (q.was_open live);
 }
 
+pub kept_same : (old new : State) → new ≡ old → Kept old new
+kept_same old new same =
+    record { was_open = λ live. rw same at live; committed = λ _. ap (λ (s : State). s.committed) same }
+
 -- ---- one statement
 
 -- A statement that is understood so under a schema, and has this effect. `Under` names the schema.
-module _ (schema : Schema) (sql : List ℕ) (params : Row) (old new : State) (clean : IsTrue new.is_open
-    → HasCleanDisk new)
-    (command : Command) (is : command_of (understood schema sql) ≡ command) (plain : IsPlain (understood schema sql))
+module _ (schema : Schema) (sql : List ℕ) (params : Row) (old new : State) (command : Command)
+    (is : (command_of (understood schema sql) ≡ command) × IsPlain (understood schema sql))
     (writes : (count : ℕ) → Runs old new None command (statement_of sql (understood schema sql)) params count
     → Writes old new None command (statement_of sql (understood schema sql)) params count)
     (Effect : Database → Database → Type 0)
     (effect : old.now.schema ≡ schema → (tally : Tally) (after : Database)
     → Does old.step_limit (mode_of old) params old.now (statement_of sql (understood schema sql)) None command
     (Ok (tally, after)) → Effect old.now after) where
-  did : (count : ℕ) → (HasCleanDisk new → IsTrue old.in_transaction → ExecutesInside 0 sql params old new (Ok count))
+  did : (r : Result ℕ Error) → IsOk r
+      → (HasCleanDisk new → IsTrue old.in_transaction → ExecutesInside 0 sql params old new r)
       → IsTrue old.is_open → IsTrue old.in_transaction → HasCleanDisk new → IsTrue new.is_open
       × IsTrue new.in_transaction × Under schema Effect old.now new.now
-  did count runs was on sure =
-      let h = runs sure on in (
+  did (Ok count) ok ran was on sure =
+      let h = ran sure on in (
         h.1.is_open,
         h.1.mode,
         λ has. let w =
-            writes count (runs_as sql params old new schema has command is plain count h.0) in
+            writes count (runs_as sql params old new schema has command is.0 is.1 count h.0) in
             (λ _. w.sound, effect has w.tally new.now w.changed),
       )
+  did (Err e) ok ran was on sure = absurd (cc)
 
-  pub inside : (r : Result ℕ Error)
-      → (HasCleanDisk new → IsTrue old.in_transaction → ExecutesInside 0 sql params old new r)
-      → (old.in_transaction ≡ false → new ≡ old) → Survives old new (λ _. ⊥) → IsInside r old new (Under schema Effect)
-  inside r runs ended survives = record { kept = kept; ok = ok r runs; survives = survives }
+  pub inside : {X E : Type 0} (q : Result X E) → IsPerformed q sql params old new
+      → IsInside q old new (Under schema Effect)
+  inside q h = record { kept = kept; ok = made q h; survives = h.survives }
     where
       kept : IsTrue new.is_open → Kept old new
       kept live = elim (cases_Bool old.in_transaction) [
-        | inl on ↦ inside_kept sql params old new r (runs (clean live) on)
-        | inr off ↦ let same = ended off in
-            record { was_open = λ h. rw same at h; committed = λ _. ap (λ (s : State). s.committed) same }
+        | inl on ↦ inside_kept sql params old new h.outcome (h.ran (h.open_is_clean live) on)
+        | inr off ↦ h.ended off
       ]
 
-      ok : (r : Result ℕ Error) → (HasCleanDisk new → IsTrue old.in_transaction → ExecutesInside 0 sql params old new r)
-          → OnOk r (IsTrue old.is_open → IsTrue old.in_transaction → HasCleanDisk new → IsTrue new.is_open
+      made : {X E : Type 0} (q : Result X E) → IsPerformed q sql params old new
+          → OnOk q (IsTrue old.is_open → IsTrue old.in_transaction → HasCleanDisk new → IsTrue new.is_open
           × IsTrue new.in_transaction × Under schema Effect old.now new.now)
-      ok (Ok count) runs = did count runs
-      ok (Err e) runs = tt
+      made (Ok x) h = did h.outcome (h.ok refl) h.ran
+      made (Err e) h = tt
 
 -- whichever way the store's tables lie
 pub inside_store : {X E : Type 0} (r : Result X E) (old new : State) (Change : Layout → Database → Database → Type 0)
@@ -83,32 +87,6 @@ inside_store (Ok x) old new Change h = record {
   survives = (h Created).survives;
 }
 inside_store (Err e) old new Change h = record { kept = (h Created).kept; ok = tt; survives = (h Created).survives }
-
--- the same of another answer, where that is Ok only if the first is
-pub inside_as : {X Y E F : Type 0} (r : Result X E) (q : Result Y F) (old new : State) (Change : Database → Database
-    → Type 0) → (IsOk q → IsOk r) → IsInside r old new Change → IsInside q old new Change
-inside_as (Ok x) (Ok y) old new Change same h = record { kept = h.kept; ok = h.ok; survives = h.survives }
-inside_as (Err e) (Ok y) old new Change same h = absurd (let impossible = same refl in cc)
-inside_as r (Err f) old new Change same h = record { kept = h.kept; ok = tt; survives = h.survives }
-
--- of a connection that is clean while it is open, as another answer tells of it
-module _ (schema : Schema) (sql : List ℕ) (params : Row) (old new : State)
-    (law : new.is_clean ≡ false → new.is_open ≡ false)
-    (command : Command) (is : (command_of (understood schema sql) ≡ command) × IsPlain (understood schema sql))
-    (writes : (count : ℕ) → Runs old new None command (statement_of sql (understood schema sql)) params count
-    → Writes old new None command (statement_of sql (understood schema sql)) params count)
-    {X E : Type 0} (r : Result ℕ Error) (q : Result X E) (same : IsOk q → IsOk r)
-    (runs : HasCleanDisk new → IsTrue old.in_transaction → ExecutesInside 0 sql params old new r)
-    (ended : old.in_transaction ≡ false → new ≡ old) (survives : Survives old new (λ _. ⊥))
-    (Effect : Database → Database → Type 0) where
-  pub does_inside : (old.now.schema ≡ schema → (tally : Tally) (after : Database)
-      → Does old.step_limit (mode_of old) params old.now (statement_of sql (understood schema sql)) None command
-      (Ok (tally, after)) → Effect old.now after)
-      → IsInside q old new (Under schema Effect)
-  does_inside effect =
-      inside_as r q old new (Under schema Effect) same
-      (inside schema sql params old new (clean_if_open new.is_clean new.is_open law) command is.0 is.1 writes Effect
-      effect r runs ended survives)
 
 pub inside_turned : {X E : Type 0} (r : Result X E) (old new : State) (P Q : Database → Database → Type 0)
     → ((d e : Database) → P d e → Q d e) → IsInside r old new P → IsInside r old new Q

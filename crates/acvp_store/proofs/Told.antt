@@ -51,16 +51,16 @@ none_found shown [] rows same none = refl
 none_found shown (x ∷ xs) [] same none = absurd (omega (arith, length_permutation _ _ same))
 none_found shown (x ∷ xs) (r ∷ rows) same none = absurd (cc)
 
-pub one_found : {A : Type 0} (shown : A → Row) (xs : List A) (rows : List Row) (row : Row) (a : A)
-    → IsPermutation (map shown xs) rows → length rows ≤ 1 → slice_get rows 0 ≡ Some row
-    → ((y : A) → row ≡ shown y → a ≡ y) → Some a ≡ slice_get xs 0
-one_found shown xs [] row a same few head is = absurd (cc)
-one_found shown xs (r ∷ s ∷ rows) row a same few head is = absurd (omega arith)
-one_found shown (x ∷ []) (r ∷ []) row a same few head is =
+pub one_found : {T : Type 0} (reads : T → Type 0) (shown : T → Row) (xs : List T) (rows : List Row) (row : Row)
+    (a : T) → AllByRecursion reads xs → IsPermutation (map shown xs) rows → length rows ≤ 1
+    → slice_get rows 0 ≡ Some row → IsRowOf reads shown row a → Some a ≡ slice_get xs 0
+one_found reads shown xs [] row a each same few head is = absurd (cc)
+one_found reads shown xs (r ∷ s ∷ rows) row a each same few head is = absurd (omega arith)
+one_found reads shown (x ∷ []) (r ∷ []) row a each same few head is =
     let back = one_permutation (shown x) (r ∷ []) same in
     let it : row ≡ shown x = cc in
-    ap Some (is x it)
-one_found shown _ _ row a same few head is = absurd (omega (arith, length_permutation _ _ same))
+    ap Some (is x each.0 it)
+one_found reads shown _ _ row a each same few head is = absurd (omega (arith, length_permutation _ _ same))
 
 pub first_mapped : {A B : Type 0} (f : A → B) (xs : List A) → slice_get (map f xs) 0 ≡ option_map f (slice_get xs 0)
 first_mapped f [] = refl
@@ -86,14 +86,8 @@ listed_as reads shown (r ∷ rows) (x ∷ found) (y ∷ list) all each is =
 listed_as reads shown _ _ _ all each is = absurd (cc)
 
 -- where nothing has to be read of the members
-pub listed_plainly : {T X Y E F : Type 0} (shown : T → Row) (outcome : Result X E) (rows_of : X → List Row)
-    (result : Result Y F) (items_of : Y → List T)
-    → IfOk result (λ found. IfOk outcome (λ x. (list : List T) → AllByRecursion (λ _. ⊤) list
-    → rows_of x ≡ map shown list → items_of found ≡ list))
-    → IfOk result (λ found. IfOk outcome (λ x. (list : List T) → rows_of x ≡ map shown list → items_of found ≡ list))
-listed_plainly shown outcome rows_of (Err f) items_of found = tt
-listed_plainly shown (Err e) rows_of (Ok r) items_of found = tt
-listed_plainly shown (Ok x) rows_of (Ok r) items_of found = λ list is. found list (all_of (λ _. ⊤) (λ _. tt) list) is
+pub unread : {T : Type 0} (list : List T) → AllByRecursion (λ _. ⊤) list
+unread = all_of (λ _. ⊤) (λ _. tt)
 
 -- what a query's answer lists, of each content that is meant
 pub all_listed : {T C X Y E F : Type 0} (Sound Held : C → Type 0) (reads : T → Type 0) (shown : T → Row)
@@ -107,19 +101,6 @@ pub all_listed : {T C X Y E F : Type 0} (Sound Held : C → Type 0) (reads : T �
 all_listed Sound Held reads shown outcome rows_of result items_of picked ok =
     told outcome result ok _ _ _ (λ x r found rows. λ c sound held. let it = rows c sound held in
     found (picked c) it.0 it.1)
-
--- ---- one row at most
-
-pub single_found : {T : Type 0} (reads : T → Type 0) (shown : T → Row) (xs : List T) (rows : List Row) (row : Row)
-    (a : T) → AllByRecursion reads xs → IsPermutation (map shown xs) rows → length rows ≤ 1
-    → slice_get rows 0 ≡ Some row → IsRowOf reads shown row a → Some a ≡ slice_get xs 0
-single_found reads shown xs [] row a each same few head is = absurd (cc)
-single_found reads shown xs (r ∷ s ∷ rows) row a each same few head is = absurd (omega arith)
-single_found reads shown (x ∷ []) (r ∷ []) row a each same few head is =
-    let back = one_permutation (shown x) (r ∷ []) same in
-    let it : row ≡ shown x = cc in
-    ap Some (is x each.0 it)
-single_found reads shown _ _ row a each same few head is = absurd (omega (arith, length_permutation _ _ same))
 
 -- what a query's answer shows as one row, of each content that is meant
 pub one_listed : {T C X E F : Type 0} (Sound Held : C → Type 0) (reads : T → Type 0) (shown : T → Row)

@@ -18,6 +18,7 @@ pub use Rattle.acvp_store.specs.Private.Migration.{CopiesSets, EmptiesOldSets, H
 pub use Rattle.acvp_store.specs.Private.Migration.{version_of}
 pub use Rattle.acvp_store.specs.Private.Objects.{IsObject, IsOfKind, IsReadObject, Registers}
 pub use Rattle.acvp_store.specs.Private.Pages.{greatest, IsRowOf}
+pub use Rattle.acvp_store.specs.Private.Performed.{IsPerformed, parameter}
 pub use Rattle.acvp_store.specs.Private.Requests.{FitsBody, IsAsked, IsJudgedBody, IsJudgedRequest, IsReadable}
 pub use Rattle.acvp_store.specs.Private.Requests.{request_shown}
 pub use Rattle.acvp_store.specs.Private.SetRanges.{AreTexts, HasStraySet, whole_shown}

@@ -1,16 +1,18 @@
 -- The statements that write a store: their texts, and what these mean whichever way its tables lie.
-use Rattle.std.proofs.Common.{◌≡◌, refl, None, Ok, Result, IsOk, [], ◌∷◌, ◌++◌, List, ℕ, codes, pos, false, IsTrue}
+use Rattle.std.proofs.Common.{◌≡◌, refl, None, Ok, Result, [], ◌∷◌, ◌++◌, List, ℕ, codes, pos}
 use Rattle.sqlite.specs.Listing.{understood}
 use Rattle.sqlite.specs.Source.TheVariants as source
 use Rattle.sqlite.specs.State.{Writes}
+use Rattle.sqlite_resolve.specs.Compile.{compiled}
 use Rattle.sqlite_tied.specs.Compute.{everything}
-use Rattle.acvp_store.proofs.Words.{Binary, col, Command, command_of, Compare, Created, Database, Delete, Does, Eq}
-use Rattle.acvp_store.proofs.Words.{Error, ExecutesInside, HasCleanDisk, Insert, Int, IsInside, IsPlain, Layout, lit}
+use Rattle.acvp_store.proofs.Words.{Binary, col, Command, Compare, Created, Database, Delete, Does, Eq}
+use Rattle.acvp_store.proofs.Words.{Insert, Int, IsInside, IsPerformed, Layout, lit}
 use Rattle.acvp_store.proofs.Words.{Lt, Migrated, mode_of, Null, op2, Query, reviewer_tree, Row, Runs, schema_of}
-use Rattle.acvp_store.proofs.Words.{set_tree, State, statement_of, Survives, Tally, Term, Text, Under, UnderStore}
+use Rattle.acvp_store.proofs.Words.{set_tree, State, statement_of, Tally, Term, Text, Under, UnderStore}
 use Rattle.acvp_store.proofs.Words.{Update, Values}
 use Rattle.acvp_store.proofs.QueryForms.{equals, collated, simple}
-use Rattle.acvp_store.proofs.Together.{does_inside, inside_store}
+use Rattle.acvp_store.proofs.Compiled.{as_compiled, IsCompiled}
+use Rattle.acvp_store.proofs.Together.{inside, inside_store}
 
 pub data Writing : Type 0 where
   VersionAdded : Writing
@@ -144,16 +146,12 @@ writing_command ReviewerRemoved layout =
 
 -- ---- what the texts mean
 
-abbrev IsUnderstood : Layout → Writing → Type 0
-IsUnderstood layout w =
-    (command_of (understood (schema_of layout) (writing_text w)) ≡ writing_command w layout) ×
-    IsPlain (understood (schema_of layout) (writing_text w))
-
-is_understood : (layout : Layout) (w : Writing) → IsUnderstood layout w
-unfolding understood everything
-is_understood Created AccountAdded = (refl, (refl, refl))
-is_understood Migrated AccountAdded = (refl, (refl, refl))
-is_understood _ _ = (refl, (refl, refl))
+is_compiled : (layout : Layout) (w : Writing)
+    → IsCompiled (compiled (schema_of layout) (writing_text w)) (writing_command w layout)
+unfolding compiled everything
+is_compiled Created AccountAdded = (refl, refl, refl)
+is_compiled Migrated AccountAdded = (refl, refl, refl)
+is_compiled _ _ = (refl, refl, refl)
 
 -- each writes
 only_writes : (w : Writing) (layout : Layout) (old new : State) (text : List ℕ) (params : Row) (count : ℕ)
@@ -172,16 +170,15 @@ Effects w layout params old Change =
 
 -- ---- inside a transaction
 
-module _ (w : Writing) (params : Row) (old new : State) (law : new.is_clean ≡ false → new.is_open ≡ false)
-    {X E : Type 0} (r : Result ℕ Error) (q : Result X E) (same : IsOk q → IsOk r)
-    (runs : HasCleanDisk new → IsTrue old.in_transaction → ExecutesInside 0 (writing_text w) params old new r)
-    (ended : old.in_transaction ≡ false → new ≡ old) (survives : Survives old new (λ _. ⊥)) where
+module _ (w : Writing) (params : Row) (old new : State) {X E : Type 0} (q : Result X E)
+    (h : IsPerformed q (writing_text w) params old new) where
   -- under one schema
   pub writes_under : (layout : Layout) (Change : Database → Database → Type 0)
       → Effects w layout params old Change → IsInside q old new (Under (schema_of layout) Change)
-  writes_under layout Change =
-      does_inside (schema_of layout) (writing_text w) params old new law (writing_command w layout)
-      (is_understood layout w) (only_writes w layout old new _ params) r q same runs ended survives Change
+  writes_under layout Change effect =
+      inside (schema_of layout) (writing_text w) params old new (writing_command w layout)
+      (as_compiled (schema_of layout) (writing_text w) (writing_command w layout) (is_compiled layout w)).0
+      (only_writes w layout old new _ params) Change effect q h
 
   -- whichever way the tables lie
   pub writes : (Change : Layout → Database → Database → Type 0)

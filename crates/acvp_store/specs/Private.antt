@@ -13,3 +13,5 @@ pub mod Found
 pub mod Migration
 pub mod Strays
 pub mod SetRanges
+pub mod Performed
+pub mod Queries

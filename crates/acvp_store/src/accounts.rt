@@ -10,21 +10,26 @@ ghost use Rattle.acvp_store.specs.Rows.{account_tree, HoldsAccounts, account_sho
 ghost use Rattle.acvp_store.specs.Private.Columns.{account_columns};
 ghost use Rattle.acvp_store.specs.Private.Shown.{AreMet, is_under};
 
-use crate::fault::done;
-use crate::shown::{Shown, account_number, answered, field, fitting, truth};
-use crate::work::Work;
+use crate::columns::{account_number, field, fitting, truth};
+use crate::members::{Member, answered};
+use crate::queries::asked;
+use crate::work::{Work, perform};
 use acvp_tables::{AccountRow, NewAccount, StoreFault, UsedStep};
-use sqlite::{Alter, Connection, Row, Transaction, params};
+use sqlite::types::ToSql;
+use sqlite::{Alter, Connection, Row, Transaction};
 
-impl Shown for AccountRow {
-    ghost use Rattle.std.specs.Prelude.{◌≡◌, ◌<◌, ◌^◌, length};
+impl Member for AccountRow {
+    ghost use Rattle.std.specs.Prelude.{⊤};
+    ghost use Rattle.acvp_store.specs.Ranges.{FitsAccount};
     ghost use Rattle.acvp_store.specs.Rows.{account_shown};
 
     ghost shown = { account_shown };
 
-    ghost fits = { λ a. (a.number < 2 ^ 16) × (length a.secret ≡ 32) };
+    ghost reads = { λ _. ⊤ };
 
-    ghost judged_so = { λ a. (a.number < 2 ^ 16) × (length a.secret ≡ 32) };
+    ghost fits = { FitsAccount };
+
+    ghost judged_so = { FitsAccount };
 
     fn read(row: &Row) -> Result<AccountRow, StoreFault> {
         let number = account_number(row, 0)?;
@@ -58,9 +63,10 @@ pub(crate) fn find_account<S: Alter>(
         (λ a. (a.number < 2 ^ 16) × (length a.secret ≡ 32)) ((state S.Store conn.old).now.trees account_tree)) }
     ensures read { IsRead result (state S.Store conn.old) (state S.Store conn.new) }
 {
-    answered(conn.query_all(
+    answered(asked(
+        conn,
         "SELECT account, secret, enabled, last_step FROM account WHERE account = ?1",
-        params![u32::from(number)],
+        &[u32::from(number).to_sql()],
     ))
 }
 
@@ -75,10 +81,14 @@ impl Work for NewAccount {
         (λ layout. Alters layout account_tree HoldsAccounts (λ accounts. accounts ++ new_account a ∷ [])) };
 
     fn run<S: Alter>(&self, tx: &mut Transaction<'_, S>) -> Result<(), StoreFault> {
-        done(tx.execute(
+        perform(
+            tx,
             "INSERT INTO account (account, secret, enabled, last_step) VALUES (?1, ?2, 1, NULL)",
-            params![u32::from(self.account), self.secret.as_slice()],
-        ))
+            &[
+                u32::from(self.account).to_sql(),
+                self.secret.as_slice().to_sql(),
+            ],
+        )
     }
 }
 
@@ -93,10 +103,11 @@ impl Work for UsedStep {
 
     fn run<S: Alter>(&self, tx: &mut Transaction<'_, S>) -> Result<(), StoreFault> {
         let step = fitting(self.step)?;
-        done(tx.execute(
+        perform(
+            tx,
             "UPDATE account SET last_step = ?2 WHERE account = ?1",
-            params![u32::from(self.account), step],
-        ))
+            &[u32::from(self.account).to_sql(), step],
+        )
     }
 }
 
@@ -116,9 +127,10 @@ impl Work for DisabledAccount {
         (λ layout. Alters layout account_tree HoldsAccounts (changed (is_account d.account) disabled)) };
 
     fn run<S: Alter>(&self, tx: &mut Transaction<'_, S>) -> Result<(), StoreFault> {
-        done(tx.execute(
+        perform(
+            tx,
             "UPDATE account SET enabled = 0 WHERE account = ?1",
-            params![u32::from(self.account)],
-        ))
+            &[u32::from(self.account).to_sql()],
+        )
     }
 }

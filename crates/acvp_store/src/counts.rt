@@ -1,5 +1,5 @@
 //! How many rows an account has. Their numbers have no gaps, so the greatest of them tells.
-ghost use Rattle.std.specs.Prelude.{◌≡◌, ◌≢◌, ◌<◌, ◌*◌, ◌+◌, ℕ, length, IsTrue, IfErr, IfOk, IsOk};
+ghost use Rattle.std.specs.Prelude.{MatchResult, ◌≡◌, ◌≢◌, ◌<◌, ◌*◌, ◌+◌, ℕ, length, IsTrue, IfErr, IfOk, IsOk};
 ghost use Rattle.sqlite.specs.Held.{state};
 ghost use Rattle.sqlite_value.specs.Order.{column};
 ghost use Rattle.acvp_tables.specs.Content.{Content, sessions_of, objects_of, requests_of, count_of, counts_of};
@@ -9,22 +9,23 @@ ghost use Rattle.acvp_store.specs.Rows.{session_tree, HoldsSessions};
 ghost use Rattle.acvp_store.specs.Stands.{object_tree, request_tree, HoldsObjects, HoldsRequests};
 ghost use Rattle.acvp_store.specs.Values.{whole};
 ghost use Rattle.acvp_store.specs.Private.Pages.{greatest};
-ghost use Rattle.acvp_store.specs.Private.Shown.{IsRefusedOf};
 
-use crate::fault::fault_of;
+use crate::columns::field;
 use crate::objects::kind_number;
 use crate::pages::page_of;
-use crate::shown::field;
+use crate::queries::asked;
 use acvp_registry::{Counts, Kind};
 use acvp_tables::{Counted, StoreFault};
-use sqlite::{Alter, Connection, Error, Row, params};
+use sqlite::types::ToSql;
+use sqlite::{Alter, Connection, Row};
 
 /// How many rows an account has, by the query for their greatest number.
-fn counted(account: u16, outcome: Result<Vec<Row>, Error>) -> Result<u64, StoreFault>
+fn counted(account: u16, outcome: Result<Vec<Row>, StoreFault>) -> Result<u64, StoreFault>
     ensures found { IfOk result (λ found. IfOk outcome (λ rows. (n : ℕ) → rows.items ≡ greatest (account * 1000000) n
         → found ≡ n)) }
     ensures refused { IfErr result (λ fault. fault ≡ StoreFault.Refused
-        → IsRefusedOf (λ rows. (n : ℕ) → rows.items ≢ greatest (account * 1000000) n) outcome) }
+        → MatchResult outcome (λ rows. (n : ℕ) → rows.items ≢ greatest (account * 1000000) n)
+        (λ fault. fault ≡ StoreFault.Refused)) }
     ensures ok { IsOk result → IsOk outcome }
 {
     match outcome {
@@ -32,7 +33,7 @@ fn counted(account: u16, outcome: Result<Vec<Row>, Error>) -> Result<u64, StoreF
             Some(row) => given_since(account, row),
             None => Ok(0),
         },
-        Err(error) => Err(fault_of(error)),
+        Err(fault) => Err(fault),
     }
 }
 
@@ -61,9 +62,10 @@ fn count_sessions<S: Alter>(conn: &mut Connection<S>, account: u16) -> Result<u6
     let at = page_of(account, 0, 0);
     counted(
         account,
-        conn.query_all(
+        asked(
+            conn,
             "SELECT session FROM session WHERE session BETWEEN ?1 AND ?2 ORDER BY session DESC LIMIT 1",
-            params![at.first, at.last],
+            &[at.first, at.last],
         ),
     )
 }
@@ -84,9 +86,10 @@ fn count_objects<S: Alter>(
     let at = page_of(account, 0, 0);
     counted(
         account,
-        conn.query_all(
+        asked(
+            conn,
             "SELECT number FROM object WHERE kind = ?3 AND number BETWEEN ?1 AND ?2 ORDER BY number DESC LIMIT 1",
-            params![at.first, at.last, kind_number(kind)],
+            &[at.first, at.last, kind_number(kind).to_sql()],
         ),
     )
 }
@@ -103,9 +106,10 @@ fn count_requests<S: Alter>(conn: &mut Connection<S>, account: u16) -> Result<u6
     let at = page_of(account, 0, 0);
     counted(
         account,
-        conn.query_all(
+        asked(
+            conn,
             "SELECT request FROM request WHERE request BETWEEN ?1 AND ?2 ORDER BY request DESC LIMIT 1",
-            params![at.first, at.last],
+            &[at.first, at.last],
         ),
     )
 }

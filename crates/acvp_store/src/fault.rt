@@ -1,8 +1,8 @@
 //! What the errors of statements are told as.
-ghost use Rattle.std.specs.Prelude.{◌≡◌, ◌≢◌, IsOk};
+ghost use Rattle.std.specs.Prelude.{◌≡◌, ◌≢◌, IfErr, IfOk, IsErrAnd, IsOk};
 
 use acvp_tables::StoreFault;
-use sqlite::{Error, ErrorCode};
+use sqlite::{Error, ErrorCode, Row};
 
 /// Why a database isn't taken over. No call on tables that were has a fault like Schema, so it is a type of its own.
 #[derive(Clone, Copy, Debug, PartialEq, Eq)]
@@ -46,6 +46,19 @@ pub(crate) fn done(outcome: Result<usize, Error>) -> Result<(), StoreFault>
 {
     match outcome {
         Ok(_) => Ok(()),
+        Err(error) => Err(fault_of(error)),
+    }
+}
+
+/// What a query answers.
+pub(crate) fn rows_in(outcome: Result<Vec<Row>, Error>) -> Result<Vec<Row>, StoreFault>
+    ensures same { IfOk result (λ found. IfOk outcome (λ rows. found ≡ rows)) }
+    ensures refused { IfErr result (λ fault. fault ≡ StoreFault.Refused
+        → IsErrAnd outcome (λ error. error ≢ Error.SqliteFailure ErrorCode.OutOfMemory)) }
+    ensures ok { IsOk result → IsOk outcome }
+{
+    match outcome {
+        Ok(rows) => Ok(rows),
         Err(error) => Err(fault_of(error)),
     }
 }

@@ -2,12 +2,15 @@
 #![tactic(auto)]
 
 mod accounts;
+mod columns;
 mod counts;
 mod fault;
+mod members;
 mod migration;
 mod object_ranges;
 mod objects;
 mod pages;
+mod queries;
 mod range_laws;
 mod ranges;
 mod reopening;
@@ -21,7 +24,6 @@ mod set_ranges;
 mod set_texts;
 mod sets;
 mod setup;
-mod shown;
 mod store;
 mod summaries;
 mod version;

@@ -6,9 +6,8 @@ ghost use Rattle.acvp_store.specs.Schema.{Migrated, schema_of, First, Second, Cr
 ghost use Rattle.acvp_store.specs.Schema.{schema_at};
 ghost use Rattle.acvp_store.specs.Private.Migration.{version_of, CopiesSets, EmptiesOldSets, RaisesVersion};
 
-use crate::fault::done;
 use crate::setup::StoreTable;
-use crate::work::{Then, Work, commit};
+use crate::work::{Then, Work, commit, perform};
 use acvp_tables::StoreFault;
 use sqlite::{Alter, Connection, Transaction};
 
@@ -33,10 +32,11 @@ impl Work for SetsCopied {
     ghost change = { λ _. Under (schema_of Migrated) CopiesSets };
 
     fn run<S: Alter>(&self, tx: &mut Transaction<'_, S>) -> Result<(), StoreFault> {
-        done(tx.execute(
+        perform(
+            tx,
             "INSERT INTO vset2 (vs, session, capability, cancelled, answers, verdicts, disposition, epoch) SELECT vs, session, capability, cancelled, answers, verdicts, disposition, 0 FROM vset",
             &[],
-        ))
+        )
     }
 }
 
@@ -52,7 +52,7 @@ impl Work for OldSetsDeleted {
     ghost change = { λ _. Under (schema_of Migrated) EmptiesOldSets };
 
     fn run<S: Alter>(&self, tx: &mut Transaction<'_, S>) -> Result<(), StoreFault> {
-        done(tx.execute("DELETE FROM vset", &[]))
+        perform(tx, "DELETE FROM vset", &[])
     }
 }
 
@@ -67,7 +67,7 @@ impl Work for VersionRaised {
     ghost change = { λ _. UnderStore RaisesVersion };
 
     fn run<S: Alter>(&self, tx: &mut Transaction<'_, S>) -> Result<(), StoreFault> {
-        done(tx.execute("UPDATE meta SET value = 3 WHERE name = 'schema'", &[]))
+        perform(tx, "UPDATE meta SET value = 3 WHERE name = 'schema'", &[])
     }
 }
 

@@ -9,10 +9,12 @@ ghost use Rattle.acvp_store.specs.Ranges.{FitsObject, first_number, last_number,
 ghost use Rattle.acvp_store.specs.Stands.{object_tree};
 
 use crate::objects::kind_number;
+use crate::queries::asked;
 use crate::ranges::{RangeFault, number_in, numbers_of, ranged};
 use acvp_registry::Kind;
 use acvp_tables::{ObjectRow, StoreFault};
-use sqlite::{Alter, Connection, params};
+use sqlite::types::ToSql;
+use sqlite::{Alter, Connection};
 use std::alloc::Global;
 
 /// The objects of a kind whose numbers begin with an account's, whatever the rows are. A stray one is told by its
@@ -38,9 +40,10 @@ pub(crate) fn objects_numbered<S: Alter>(
     let numbers = numbers_of(account);
     ranged(
         alloc,
-        conn.query_all(
+        asked(
+            conn,
             "SELECT kind, number, account, body FROM object WHERE kind = ?3 AND number BETWEEN ?1 AND ?2 ORDER BY number",
-            params![numbers.first, numbers.last, kind_number(kind)],
+            &[numbers.first, numbers.last, kind_number(kind).to_sql()],
         ),
         1,
     )
@@ -58,7 +61,8 @@ pub(crate) fn object_outside<S: Alter>(conn: &mut Connection<S>) -> Result<Optio
         → HasRowOutside (IsRegisteredWithin 9999) 2 number ((state S.Store conn.old).now.trees object_tree)) }
     ensures read { IsRead result (state S.Store conn.old) (state S.Store conn.new) }
 {
-    number_in(conn.query_all(
+    number_in(asked(
+        conn,
         "SELECT number FROM object WHERE kind NOT BETWEEN 1 AND 3 OR number NOT BETWEEN 1000000 AND 9999999999 LIMIT 1",
         &[],
     ))

@@ -12,39 +12,24 @@ ghost use Rattle.acvp_store.specs.Private.Objects.{IsObject, IsReadObject, Regis
 ghost use Rattle.acvp_store.specs.Private.Shown.{AreMet, is_of};
 ghost use Rattle.acvp_store.specs.Stands.{HoldsObjects, FitColumns, object_columns, object_tree};
 
-use crate::fault::done;
-use crate::pages::{Member, listed, only, page_of};
-use crate::shown::{Shown, account_number, answered, field, fitting, key};
+use crate::columns::{account_number, field, fitting, key};
+use crate::members::{Member, answered, listed};
+use crate::pages::page_of;
+use crate::queries::asked;
 use crate::summaries::{kept_value, registered_kind};
-use crate::work::Work;
+use crate::work::{Work, perform};
 use acvp_registry::{Kind, Object, RegFault, read_object};
 use acvp_tables::{ObjectRow, StoreFault};
-use sqlite::{Alter, Connection, Row, Transaction, params};
+use sqlite::types::ToSql;
+use sqlite::{Alter, Connection, Row, Transaction};
 use std::alloc::Global;
 
 /// An account's number, alone in its row.
-impl Shown for u16 {
-    ghost use Rattle.std.specs.Prelude.{◌<◌, ◌^◌};
-    ghost use Rattle.std.specs.Prelude.{◌∷◌, []};
+impl Member for u16 {
+    ghost use Rattle.std.specs.Prelude.{⊤, ◌<◌, ◌^◌, ◌∷◌, []};
     ghost use Rattle.acvp_store.specs.Values.{whole};
 
     ghost shown = { λ account. whole account ∷ [] };
-
-    ghost fits = { λ account. account < 2 ^ 16 };
-
-    ghost judged_so = { λ account. account < 2 ^ 16 };
-
-    fn read(row: &Row) -> Result<u16, StoreFault> {
-        account_number(row, 0)
-    }
-}
-
-impl Member for u16 {
-    ghost use Rattle.std.specs.Prelude.{◌<◌, ◌^◌};
-    ghost use Rattle.std.specs.Prelude.{◌∷◌, [], ⊤};
-    ghost use Rattle.acvp_store.specs.Values.{whole};
-
-    ghost listed_as = { λ account. whole account ∷ [] };
 
     ghost reads = { λ _. ⊤ };
 
@@ -52,7 +37,7 @@ impl Member for u16 {
 
     ghost judged_so = { λ account. account < 2 ^ 16 };
 
-    fn from_row(row: &Row) -> Result<u16, StoreFault> {
+    fn read(row: &Row) -> Result<u16, StoreFault> {
         account_number(row, 0)
     }
 }
@@ -82,9 +67,10 @@ pub(crate) fn find_owner<S: Alter>(
         → found ≡ option_map (λ row. row.account) (object_at kind number objects)) }
     ensures read { IsRead result (state S.Store conn.old) (state S.Store conn.new) }
 {
-    answered(conn.query_all(
+    answered(asked(
+        conn,
         "SELECT account FROM object WHERE kind = ?1 AND number = ?2",
-        params![kind_number(kind), key(number)],
+        &[kind_number(kind).to_sql(), key(number)],
     ))
 }
 
@@ -119,7 +105,7 @@ impl Member for ObjectRow {
     ghost use Rattle.acvp_store.specs.Private.Objects.{IsObject, IsReadObject};
     ghost use Rattle.acvp_store.specs.Stands.{IsKeepable, object_columns};
 
-    ghost listed_as = { object_columns };
+    ghost shown = { object_columns };
 
     ghost reads = { IsKeepable };
 
@@ -127,7 +113,7 @@ impl Member for ObjectRow {
 
     ghost judged_so = { λ o. (o.account < 2 ^ 16) × IsReadObject o.object };
 
-    fn from_row(row: &Row) -> Result<ObjectRow, StoreFault> {
+    fn read(row: &Row) -> Result<ObjectRow, StoreFault> {
         let kind: u32 = field(row, 0)?;
         let number: u64 = field(row, 1)?;
         let account = account_number(row, 2)?;
@@ -156,9 +142,10 @@ pub(crate) fn find_object<S: Alter>(
         (λ o. (o.account < 2 ^ 16) × IsReadObject o.object) ((state S.Store conn.old).now.trees object_tree)) }
     ensures read { IsRead result (state S.Store conn.old) (state S.Store conn.new) }
 {
-    only(conn.query_all(
+    answered(asked(
+        conn,
         "SELECT kind, number, account, body FROM object WHERE kind = ?1 AND number = ?2",
-        params![kind_number(kind), key(number)],
+        &[kind_number(kind).to_sql(), key(number)],
     ))
 }
 
@@ -181,9 +168,10 @@ pub(crate) fn page_objects<S: Alter>(
     let at = page_of(account, offset, limit);
     listed(
         alloc,
-        conn.query_all(
+        asked(
+            conn,
             "SELECT kind, number, account, body FROM object WHERE kind = ?4 AND number BETWEEN ?1 AND ?2 ORDER BY number LIMIT ?3",
-            params![at.first, at.last, at.limit, kind_number(kind)],
+            &[at.first, at.last, at.limit, kind_number(kind).to_sql()],
         ),
     )
 }
@@ -205,9 +193,10 @@ impl Work for Registered {
     fn run<S: Alter>(&self, tx: &mut Transaction<'_, S>) -> Result<(), StoreFault> {
         let request = fitting(self.request)?;
         let number = fitting(self.number)?;
-        done(tx.execute(
+        perform(
+            tx,
             "INSERT INTO object (kind, number, account, body) SELECT kind, ?2, account, body FROM request WHERE request = ?1 AND kind < 4",
-            params![request, number],
-        ))
+            &[request, number],
+        )
     }
 }

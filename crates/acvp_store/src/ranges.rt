@@ -12,12 +12,15 @@ ghost use Rattle.acvp_store.specs.Rows.{account_tree, account_key, HoldsAccounts
 ghost use Rattle.acvp_store.specs.Rows.{session_tree, session_key, HoldsSessions};
 ghost use Rattle.acvp_store.specs.Private.Shown.{BeginsWith, AreLedBy, AreShown};
 ghost use Rattle.acvp_store.specs.Private.Strays.{IsStray, HasStray};
+ghost use Rattle.acvp_store.specs.Values.{whole};
+ghost use Rattle.acvp_store.specs.Private.Performed.{parameter};
 
-use crate::fault::fault_of;
-use crate::pages::Member;
-use crate::shown::{Shown, field};
+use crate::columns::field;
+use crate::members::Member;
+use crate::queries::asked;
 use acvp_tables::{AccountRow, SessionRow, StoreFault};
-use sqlite::{Alter, Connection, Error, Row, params};
+use sqlite::types::{ToSql, ValueRef};
+use sqlite::{Alter, Connection, Row};
 use std::alloc::Global;
 
 /// Why the rows of a range aren't told.
@@ -42,11 +45,11 @@ fn stray(row: &Row, at: usize) -> RangeFault
 
 /// What a row is of. Its number is in the column at a place.
 fn told<T: Member>(row: &Row, at: usize) -> Result<T, RangeFault>
-    ensures judged { IfOk result (λ x. BeginsWith (T.Member.listed_as x) row.now × T.Member.judged_so x) }
+    ensures judged { IfOk result (λ x. BeginsWith (T.Member.shown x) row.now × T.Member.judged_so x) }
     ensures stray { IfErr result (λ fault. (number : ℤ) → fault ≡ RangeFault.Stray number
-        → IsStray (λ x. T.Member.reads x × T.Member.fits x) T.Member.listed_as at number row.now) }
+        → IsStray (λ x. T.Member.reads x × T.Member.fits x) T.Member.shown at number row.now) }
 {
-    match T::from_row(row) {
+    match T::read(row) {
         Ok(x) => Ok(x),
         Err(StoreFault::Refused) => Err(stray(row, at)),
         Err(StoreFault::Memory) => Err(RangeFault::Store(StoreFault::Memory)),
@@ -55,9 +58,9 @@ fn told<T: Member>(row: &Row, at: usize) -> Result<T, RangeFault>
 
 /// What each row is of.
 fn each_told<T: Member + Drop>(alloc: Global, rows: &[Row], at: usize) -> Result<Vec<T>, RangeFault>
-    ensures judged { IfOk result (λ found. AreShown T.Member.judged_so T.Member.listed_as rows.now found.items) }
+    ensures judged { IfOk result (λ found. AreShown T.Member.judged_so T.Member.shown rows.now found.items) }
     ensures stray { IfErr result (λ fault. (number : ℤ) → fault ≡ RangeFault.Stray number
-        → HasStray (λ x. T.Member.reads x × T.Member.fits x) T.Member.listed_as at number rows.now) }
+        → HasStray (λ x. T.Member.reads x × T.Member.fits x) T.Member.shown at number rows.now) }
 {
     let mut found = Vec::new(alloc);
     for row in rows {
@@ -73,37 +76,37 @@ fn each_told<T: Member + Drop>(alloc: Global, rows: &[Row], at: usize) -> Result
 /// What the rows of a query's answer are of.
 pub(crate) fn ranged<T: Member + Drop>(
     alloc: Global,
-    outcome: Result<Vec<Row>, Error>,
+    outcome: Result<Vec<Row>, StoreFault>,
     at: usize,
 ) -> Result<Vec<T>, RangeFault>
     ensures judged { IfOk result
-        (λ found. IfOk outcome (λ rows. AreShown T.Member.judged_so T.Member.listed_as rows.items found.items)) }
+        (λ found. IfOk outcome (λ rows. AreShown T.Member.judged_so T.Member.shown rows.items found.items)) }
     ensures stray { IfErr result (λ fault. (number : ℤ) → fault ≡ RangeFault.Stray number → IsOkAnd outcome (λ rows.
-        HasStray (λ x. T.Member.reads x × T.Member.fits x) T.Member.listed_as at number rows.items)) }
+        HasStray (λ x. T.Member.reads x × T.Member.fits x) T.Member.shown at number rows.items)) }
     ensures ok { IsOk result → IsOk outcome }
 {
     match outcome {
         Ok(rows) => each_told(alloc, &rows, at),
-        Err(error) => Err(RangeFault::Store(fault_of(error))),
+        Err(fault) => Err(RangeFault::Store(fault)),
     }
 }
 
 /// The numbers of rows that begin with an account's.
 #[derive(Clone, Copy)]
 pub(crate) struct Numbers {
-    pub first: i64,
-    pub last: i64,
+    pub first: ValueRef<'static>,
+    pub last: ValueRef<'static>,
 }
 
 /// The numbers of an account's sessions, requests and objects.
 pub(crate) fn numbers_of(account: u16) -> Numbers
-    ensures first { result.first ≡ pos (first_number account) }
-    ensures last { result.last ≡ pos (last_number account) }
+    ensures first { parameter result.first ≡ whole (first_number account) }
+    ensures last { parameter result.last ≡ whole (last_number account) }
 {
     let first = i64::from(account) * 1000000;
     Numbers {
-        first,
-        last: first + 999999,
+        first: ValueRef::Int(first),
+        last: ValueRef::Int(first + 999999),
     }
 }
 
@@ -128,30 +131,13 @@ pub(crate) fn sessions_numbered<S: Alter>(
     let numbers = numbers_of(account);
     ranged(
         alloc,
-        conn.query_all(
+        asked(
+            conn,
             "SELECT session, account, sample, created, cancelled, certify, live, passed FROM session WHERE session BETWEEN ?1 AND ?2 ORDER BY session",
-            params![numbers.first, numbers.last],
+            &[numbers.first, numbers.last],
         ),
         0,
     )
-}
-
-impl Member for AccountRow {
-    ghost use Rattle.std.specs.Prelude.{⊤};
-    ghost use Rattle.acvp_store.specs.Ranges.{FitsAccount};
-    ghost use Rattle.acvp_store.specs.Rows.{account_shown};
-
-    ghost listed_as = { account_shown };
-
-    ghost reads = { λ _. ⊤ };
-
-    ghost fits = { FitsAccount };
-
-    ghost judged_so = { FitsAccount };
-
-    fn from_row(row: &Row) -> Result<AccountRow, StoreFault> {
-        AccountRow::read(row)
-    }
 }
 
 /// The accounts with these numbers, whatever the rows are.
@@ -174,16 +160,17 @@ pub(crate) fn accounts_between<S: Alter>(
 {
     ranged(
         alloc,
-        conn.query_all(
+        asked(
+            conn,
             "SELECT account, secret, enabled, last_step FROM account WHERE account BETWEEN ?1 AND ?2 ORDER BY account",
-            params![u32::from(first), u32::from(last)],
+            &[u32::from(first).to_sql(), u32::from(last).to_sql()],
         ),
         0,
     )
 }
 
 /// The number in the first row of a query's answer, where there is one.
-pub(crate) fn number_in(outcome: Result<Vec<Row>, Error>) -> Result<Option<i64>, StoreFault>
+pub(crate) fn number_in(outcome: Result<Vec<Row>, StoreFault>) -> Result<Option<i64>, StoreFault>
     ensures none { IfOk result (λ found. IfOk outcome (λ rows. found ≡ None → rows.items ≡ [])) }
     ensures some { IfOk result (λ found. IfOk outcome (λ rows. (number : ℤ) → found ≡ Some number
         → AreLedBy number rows.items)) }
@@ -197,7 +184,7 @@ pub(crate) fn number_in(outcome: Result<Vec<Row>, Error>) -> Result<Option<i64>,
                 Err(fault) => Err(fault),
             },
         },
-        Err(error) => Err(fault_of(error)),
+        Err(fault) => Err(fault),
     }
 }
 
@@ -214,7 +201,8 @@ pub(crate) fn session_outside<S: Alter>(conn: &mut Connection<S>) -> Result<Opti
         ((state S.Store conn.old).now.trees session_tree)) }
     ensures read { IsRead result (state S.Store conn.old) (state S.Store conn.new) }
 {
-    number_in(conn.query_all(
+    number_in(asked(
+        conn,
         "SELECT session FROM session WHERE session NOT BETWEEN 1000000 AND 9999999999 LIMIT 1",
         &[],
     ))
@@ -232,7 +220,8 @@ pub(crate) fn account_outside<S: Alter>(conn: &mut Connection<S>) -> Result<Opti
         ((state S.Store conn.old).now.trees account_tree)) }
     ensures read { IsRead result (state S.Store conn.old) (state S.Store conn.new) }
 {
-    number_in(conn.query_all(
+    number_in(asked(
+        conn,
         "SELECT account FROM account WHERE account NOT BETWEEN 1 AND 9999 LIMIT 1",
         &[],
     ))

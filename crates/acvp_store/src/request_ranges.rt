@@ -7,9 +7,10 @@ ghost use Rattle.acvp_store.specs.Ranges.{is_between, IsTree, AreFull, IsRange, 
 ghost use Rattle.acvp_store.specs.Ranges.{HasRowOutside, first_number, last_number};
 ghost use Rattle.acvp_store.specs.Stands.{request_tree, request_key, HoldsRequests};
 
+use crate::queries::asked;
 use crate::ranges::{RangeFault, number_in, numbers_of, ranged};
 use acvp_tables::{RequestRow, StoreFault};
-use sqlite::{Alter, Connection, params};
+use sqlite::{Alter, Connection};
 use std::alloc::Global;
 
 /// The requests whose numbers begin with an account's, whatever the rows are.
@@ -34,9 +35,10 @@ pub(crate) fn requests_numbered<S: Alter>(
     let numbers = numbers_of(account);
     ranged(
         alloc,
-        conn.query_all(
+        asked(
+            conn,
             "SELECT request, account, kind, body, status, approved FROM request WHERE request BETWEEN ?1 AND ?2 ORDER BY request",
-            params![numbers.first, numbers.last],
+            &[numbers.first, numbers.last],
         ),
         0,
     )
@@ -55,7 +57,8 @@ pub(crate) fn request_outside<S: Alter>(conn: &mut Connection<S>) -> Result<Opti
         ((state S.Store conn.old).now.trees request_tree)) }
     ensures read { IsRead result (state S.Store conn.old) (state S.Store conn.new) }
 {
-    number_in(conn.query_all(
+    number_in(asked(
+        conn,
         "SELECT request FROM request WHERE request NOT BETWEEN 1000000 AND 9999999999 LIMIT 1",
         &[],
     ))

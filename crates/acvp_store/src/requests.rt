@@ -1,8 +1,9 @@
 //! The table of requests.
-ghost use Rattle.std.specs.Prelude.{⊤, ◌≡◌, ◌≢◌, ◌<◌, ◌^◌, ◌++◌, ◌∷◌, [], pos, List, map, IsTrue, Err, IsOk, IfErr};
+ghost use Rattle.std.specs.Prelude.{⊤, ◌≡◌, ◌≢◌, ◌<◌, ◌^◌, ◌++◌, ◌∷◌, [], List, map, IsTrue, Err, IsOk, IfErr};
 ghost use Rattle.std.specs.Prelude.{IfOk, string_bytes, option_map, unwrap_or};
 ghost use Rattle.serde_json.specs.View.{view};
 ghost use Rattle.sqlite.specs.Held.{state};
+ghost use Rattle.sqlite.specs.Values.{or_null};
 ghost use Rattle.acvp_tables.specs.Changes.{changed, is_request, with_status, new_request, new_certification};
 ghost use Rattle.acvp_tables.specs.declared.rows.RequestBody.{RequestBody as Body};
 ghost use Rattle.acvp_tables.specs.declared.rows.RequestBody.TheVariants as body;
@@ -19,20 +20,24 @@ ghost use Rattle.acvp_store.specs.Private.Requests.{FitsBody, IsAsked, IsJudgedB
 ghost use Rattle.acvp_store.specs.Private.Requests.{request_shown};
 ghost use Rattle.acvp_store.specs.Private.Summaries.{status_shown};
 ghost use Rattle.acvp_store.specs.Private.Shown.{AreMet, is_under};
+ghost use Rattle.acvp_store.specs.Private.Performed.{parameter};
+ghost use Rattle.acvp_store.specs.Values.{whole};
 
-use crate::fault::done;
+use crate::columns::{account_number, field, fitting, key};
+use crate::members::{Member, answered, listed};
 use crate::objects::{kept_object, kind_number};
-use crate::pages::{Member, listed, only, page_of};
-use crate::shown::{account_number, answered, field, fitting, key};
+use crate::pages::page_of;
+use crate::queries::asked;
 use crate::summaries::{certification, status};
-use crate::work::Work;
+use crate::work::{Work, perform};
 use acvp_registry::{Kind, object_url};
 use acvp_tables::{
     Certification, NewCertification, NewRequest, RequestBody, RequestRow, RequestStatus,
     RequestSummary, StoreFault,
 };
 use serde_json::{Value, json};
-use sqlite::{Alter, Connection, Row, Transaction, params};
+use sqlite::types::{ToSql, ValueRef};
+use sqlite::{Alter, Connection, Row, Transaction};
 use std::alloc::{AllocError, Global};
 
 /// Puts in a request on which nothing is decided yet.
@@ -49,10 +54,16 @@ fn insert_request<S: Alter>(
         (UnderStore (λ layout. Alters layout request_tree HoldsRequests (λ rows. rows ++ row ∷ []))) }
 {
     let number = fitting(number)?;
-    done(tx.execute(
+    perform(
+        tx,
         "INSERT INTO request (request, account, kind, body, status, approved) VALUES (?1, ?2, ?3, ?4, 0, NULL)",
-        params![number, u32::from(account), kind, body],
-    ))
+        &[
+            number,
+            u32::from(account).to_sql(),
+            kind.to_sql(),
+            body.to_sql(),
+        ],
+    )
 }
 
 impl Work for NewRequest {
@@ -152,12 +163,12 @@ fn status_number(status: RequestStatus) -> u32
 }
 
 /// What a status gave, as its column keeps it. It is Refused where it is too large.
-fn given(status: RequestStatus) -> Result<Option<i64>, StoreFault>
-    ensures { IfOk result (λ kept. kept ≡ option_map pos (given_number status)) }
+fn given(status: RequestStatus) -> Result<ValueRef<'static>, StoreFault>
+    ensures { IfOk result (λ given. parameter given ≡ or_null whole (given_number status)) }
 {
     match status {
-        RequestStatus::Approved(number) => Ok(Some(fitting(number)?)),
-        RequestStatus::Initial | RequestStatus::Rejected => Ok(None),
+        RequestStatus::Approved(number) => fitting(number),
+        RequestStatus::Initial | RequestStatus::Rejected => Ok(ValueRef::Null),
     }
 }
 
@@ -173,10 +184,11 @@ impl Work for DecidedRequest {
     fn run<S: Alter>(&self, tx: &mut Transaction<'_, S>) -> Result<(), StoreFault> {
         let number = fitting(self.number)?;
         let approved = given(self.status)?;
-        done(tx.execute(
+        perform(
+            tx,
             "UPDATE request SET status = ?2, approved = ?3 WHERE request = ?1",
-            params![number, status_number(self.status), approved],
-        ))
+            &[number, status_number(self.status).to_sql(), approved],
+        )
     }
 }
 
@@ -204,7 +216,7 @@ impl Member for RequestRow {
     ghost use Rattle.acvp_tables.specs.declared.rows.RequestRow.{RequestRow as Request};
     ghost use Rattle.acvp_store.specs.Private.Requests.{request_shown, IsReadable};
 
-    ghost listed_as = { request_shown };
+    ghost shown = { request_shown };
 
     ghost reads = { λ r. IsReadable r.body };
 
@@ -212,7 +224,7 @@ impl Member for RequestRow {
 
     ghost judged_so = { IsJudgedRequest };
 
-    fn from_row(row: &Row) -> Result<RequestRow, StoreFault> {
+    fn read(row: &Row) -> Result<RequestRow, StoreFault> {
         let number: u64 = field(row, 0)?;
         let account = account_number(row, 1)?;
         let kind: u32 = field(row, 2)?;
@@ -259,9 +271,10 @@ pub(crate) fn find_whole_request<S: Alter>(
         ((state S.Store conn.old).now.trees request_tree)) }
     ensures read { IsRead result (state S.Store conn.old) (state S.Store conn.new) }
 {
-    only(conn.query_all(
+    answered(asked(
+        conn,
         "SELECT request, account, kind, body, status, approved FROM request WHERE request = ?1",
-        params![key(number)],
+        &[key(number)],
     ))
 }
 
@@ -298,9 +311,10 @@ pub(crate) fn find_status<S: Alter>(
         ((state S.Store conn.old).now.trees request_tree)) }
     ensures read { IsRead result (state S.Store conn.old) (state S.Store conn.new) }
 {
-    answered(conn.query_all(
+    answered(asked(
+        conn,
         "SELECT status, approved FROM request WHERE request = ?1",
-        params![key(number)],
+        &[key(number)],
     ))
 }
 
@@ -322,9 +336,10 @@ pub(crate) fn page_requests<S: Alter>(
     let at = page_of(account, offset, limit);
     listed(
         alloc,
-        conn.query_all(
+        asked(
+            conn,
             "SELECT request, account, kind, CASE WHEN kind = 4 THEN body END, status, approved FROM request WHERE request BETWEEN ?1 AND ?2 ORDER BY request LIMIT ?3",
-            params![at.first, at.last, at.limit],
+            &[at.first, at.last, at.limit],
         ),
     )
 }

@@ -7,11 +7,12 @@ ghost use Rattle.acvp_store.specs.Ranges.{is_column_between, HasNumberBetween, I
 ghost use Rattle.acvp_store.specs.Ranges.{first_number, last_number, IsReviewerRow, FitsReviewer};
 ghost use Rattle.acvp_store.specs.Stands.{reviewer_tree, HoldsReviewers};
 
-use crate::pages::Member;
+use crate::columns::{account_number, field};
+use crate::members::Member;
+use crate::queries::asked;
 use crate::ranges::{RangeFault, number_in, numbers_of, ranged};
-use crate::shown::{account_number, field};
 use acvp_tables::{ReviewerRow, StoreFault};
-use sqlite::{Alter, Connection, Row, params};
+use sqlite::{Alter, Connection, Row};
 use std::alloc::Global;
 
 impl Member for ReviewerRow {
@@ -19,7 +20,7 @@ impl Member for ReviewerRow {
     ghost use Rattle.acvp_store.specs.Ranges.{FitsReviewer};
     ghost use Rattle.acvp_store.specs.Stands.{reviewer_columns};
 
-    ghost listed_as = { reviewer_columns };
+    ghost shown = { reviewer_columns };
 
     ghost reads = { λ _. ⊤ };
 
@@ -27,7 +28,7 @@ impl Member for ReviewerRow {
 
     ghost judged_so = { FitsReviewer };
 
-    fn from_row(row: &Row) -> Result<ReviewerRow, StoreFault> {
+    fn read(row: &Row) -> Result<ReviewerRow, StoreFault> {
         let session: u64 = field(row, 0)?;
         let account = account_number(row, 1)?;
         Ok(ReviewerRow { session, account })
@@ -58,9 +59,10 @@ pub(crate) fn reviewers_numbered<S: Alter>(
     let numbers = numbers_of(account);
     ranged(
         alloc,
-        conn.query_all(
+        asked(
+            conn,
             "SELECT session, account FROM reviewer WHERE session BETWEEN ?1 AND ?2 ORDER BY session",
-            params![numbers.first, numbers.last],
+            &[numbers.first, numbers.last],
         ),
         0,
     )
@@ -81,7 +83,8 @@ pub(crate) fn reviewer_outside<S: Alter>(
         ((state S.Store conn.old).now.trees (reviewer_tree layout)))) }
     ensures read { IsRead result (state S.Store conn.old) (state S.Store conn.new) }
 {
-    number_in(conn.query_all(
+    number_in(asked(
+        conn,
         "SELECT session FROM reviewer WHERE session NOT BETWEEN 1000000 AND 9999999999 LIMIT 1",
         &[],
     ))

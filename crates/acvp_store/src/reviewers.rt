@@ -9,22 +9,23 @@ ghost use Rattle.acvp_store.specs.Alters.{Alters};
 ghost use Rattle.acvp_store.specs.Connection.{ServesStore, InStore, IsRead, UnderStore};
 ghost use Rattle.acvp_store.specs.Stands.{reviewer_tree, HoldsReviewers};
 
-use crate::fault::{done, fault_of};
-use crate::pages::listed;
-use crate::shown::{fitting, key};
-use crate::work::Work;
+use crate::columns::{fitting, key};
+use crate::members::listed;
+use crate::queries::asked;
+use crate::work::{Work, perform};
 use acvp_tables::{ReviewerRow, StoreFault};
-use sqlite::{Alter, Connection, Error, Row, Transaction, params};
+use sqlite::types::ToSql;
+use sqlite::{Alter, Connection, Row, Transaction};
 use std::alloc::Global;
 
 /// Whether a query's answer has a row.
-pub(crate) fn any(outcome: Result<Vec<Row>, Error>) -> Result<bool, StoreFault>
+pub(crate) fn any(outcome: Result<Vec<Row>, StoreFault>) -> Result<bool, StoreFault>
     ensures found { IfOk result (λ found. IfOk outcome (λ rows. found ≡ nat_lt 0 (length rows.items))) }
     ensures ok { IsOk result → IsOk outcome }
 {
     match outcome {
         Ok(rows) => Ok(!rows.is_empty()),
-        Err(error) => Err(fault_of(error)),
+        Err(fault) => Err(fault),
     }
 }
 
@@ -41,9 +42,10 @@ pub(crate) fn find_reviewer<S: Alter>(
         → found ≡ is_reviewer session account reviewers)) }
     ensures read { IsRead result (state S.Store conn.old) (state S.Store conn.new) }
 {
-    any(conn.query_all(
+    any(asked(
+        conn,
         "SELECT account FROM reviewer WHERE session = ?1 AND account = ?2",
-        params![key(session), u32::from(account)],
+        &[key(session), u32::from(account).to_sql()],
     ))
 }
 
@@ -62,9 +64,10 @@ pub(crate) fn find_reviewers<S: Alter>(
 {
     listed(
         alloc,
-        conn.query_all(
+        asked(
+            conn,
             "SELECT account FROM reviewer WHERE session = ?1 ORDER BY account",
-            params![key(session)],
+            &[key(session)],
         ),
     )
 }
@@ -86,10 +89,11 @@ impl Work for ReviewerAdded {
 
     fn run<S: Alter>(&self, tx: &mut Transaction<'_, S>) -> Result<(), StoreFault> {
         let session = fitting(self.reviewer.session)?;
-        done(tx.execute(
+        perform(
+            tx,
             "INSERT INTO reviewer (session, account) VALUES (?1, ?2)",
-            params![session, u32::from(self.reviewer.account)],
-        ))
+            &[session, u32::from(self.reviewer.account).to_sql()],
+        )
     }
 }
 
@@ -111,9 +115,10 @@ impl Work for ReviewerRemoved {
 
     fn run<S: Alter>(&self, tx: &mut Transaction<'_, S>) -> Result<(), StoreFault> {
         let session = fitting(self.reviewer.session)?;
-        done(tx.execute(
+        perform(
+            tx,
             "DELETE FROM reviewer WHERE session = ?1 AND account = ?2",
-            params![session, u32::from(self.reviewer.account)],
-        ))
+            &[session, u32::from(self.reviewer.account).to_sql()],
+        )
     }
 }

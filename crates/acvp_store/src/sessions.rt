@@ -12,23 +12,28 @@ ghost use Rattle.acvp_store.specs.Rows.{session_tree, session_shown, HoldsSessio
 ghost use Rattle.acvp_store.specs.Private.Columns.{session_columns};
 ghost use Rattle.acvp_store.specs.Private.Shown.{AreMet, is_under};
 
-use crate::fault::done;
-use crate::pages::{Member, listed, page_of};
-use crate::shown::{Shown, account_number, answered, field, fitting, key, truth};
-use crate::work::Work;
+use crate::columns::{account_number, field, fitting, key, truth};
+use crate::members::{Member, answered, listed};
+use crate::pages::page_of;
+use crate::queries::asked;
+use crate::work::{Work, perform};
 use acvp_tables::{NewSession, SessionRow, StoreFault};
-use sqlite::{Alter, Connection, Row, Transaction, params};
+use sqlite::types::ToSql;
+use sqlite::{Alter, Connection, Row, Transaction};
 use std::alloc::Global;
 
-impl Shown for SessionRow {
-    ghost use Rattle.std.specs.Prelude.{◌<◌, ◌^◌};
+impl Member for SessionRow {
+    ghost use Rattle.std.specs.Prelude.{⊤};
+    ghost use Rattle.acvp_store.specs.Ranges.{FitsSession};
     ghost use Rattle.acvp_store.specs.Rows.{session_shown};
 
     ghost shown = { session_shown };
 
-    ghost fits = { λ s. s.account < 2 ^ 16 };
+    ghost reads = { λ _. ⊤ };
 
-    ghost judged_so = { λ s. s.account < 2 ^ 16 };
+    ghost fits = { FitsSession };
+
+    ghost judged_so = { FitsSession };
 
     fn read(row: &Row) -> Result<SessionRow, StoreFault> {
         let number: u64 = field(row, 0)?;
@@ -52,24 +57,6 @@ impl Shown for SessionRow {
     }
 }
 
-impl Member for SessionRow {
-    ghost use Rattle.std.specs.Prelude.{◌<◌, ◌^◌};
-    ghost use Rattle.std.specs.Prelude.{⊤};
-    ghost use Rattle.acvp_store.specs.Rows.{session_shown};
-
-    ghost listed_as = { session_shown };
-
-    ghost reads = { λ _. ⊤ };
-
-    ghost fits = { λ s. s.account < 2 ^ 16 };
-
-    ghost judged_so = { λ s. s.account < 2 ^ 16 };
-
-    fn from_row(row: &Row) -> Result<SessionRow, StoreFault> {
-        SessionRow::read(row)
-    }
-}
-
 /// The test session of a number.
 pub(crate) fn find_session<S: Alter>(
     conn: &mut Connection<S>,
@@ -85,9 +72,10 @@ pub(crate) fn find_session<S: Alter>(
         ((state S.Store conn.old).now.trees session_tree)) }
     ensures read { IsRead result (state S.Store conn.old) (state S.Store conn.new) }
 {
-    answered(conn.query_all(
+    answered(asked(
+        conn,
         "SELECT session, account, sample, created, cancelled, certify, live, passed FROM session WHERE session = ?1",
-        params![key(number)],
+        &[key(number)],
     ))
 }
 
@@ -109,9 +97,10 @@ pub(crate) fn page_sessions<S: Alter>(
     let at = page_of(account, offset, limit);
     listed(
         alloc,
-        conn.query_all(
+        asked(
+            conn,
             "SELECT session, account, sample, created, cancelled, certify, live, passed FROM session WHERE session BETWEEN ?1 AND ?2 ORDER BY session LIMIT ?3",
-            params![at.first, at.last, at.limit],
+            &[at.first, at.last, at.limit],
         ),
     )
 }
@@ -133,10 +122,11 @@ impl Work for CancelledSession {
 
     fn run<S: Alter>(&self, tx: &mut Transaction<'_, S>) -> Result<(), StoreFault> {
         let number = fitting(self.number)?;
-        done(tx.execute(
+        perform(
+            tx,
             "UPDATE session SET cancelled = 1 WHERE session = ?1",
-            params![number],
-        ))
+            &[number],
+        )
     }
 }
 
@@ -161,10 +151,11 @@ impl Work for CountedSession {
         let number = fitting(self.number)?;
         let live = fitting(self.live)?;
         let passed = fitting(self.passed)?;
-        done(tx.execute(
+        perform(
+            tx,
             "UPDATE session SET live = ?2, passed = ?3 WHERE session = ?1",
-            params![number, live, passed],
-        ))
+            &[number, live, passed],
+        )
     }
 }
 
@@ -187,10 +178,11 @@ impl Work for PassedSession {
     fn run<S: Alter>(&self, tx: &mut Transaction<'_, S>) -> Result<(), StoreFault> {
         let number = fitting(self.number)?;
         let passed = fitting(self.passed)?;
-        done(tx.execute(
+        perform(
+            tx,
             "UPDATE session SET passed = ?2 WHERE session = ?1",
-            params![number, passed],
-        ))
+            &[number, passed],
+        )
     }
 }
 
@@ -214,10 +206,11 @@ impl Work for CertifiedSession {
     fn run<S: Alter>(&self, tx: &mut Transaction<'_, S>) -> Result<(), StoreFault> {
         let number = fitting(self.number)?;
         let request = fitting(self.request)?;
-        done(tx.execute(
+        perform(
+            tx,
             "UPDATE session SET certify = ?2 WHERE session = ?1",
-            params![number, request],
-        ))
+            &[number, request],
+        )
     }
 }
 
@@ -242,15 +235,16 @@ impl<'a> Work for SessionBegun<'a> {
         let number = fitting(session.number)?;
         let created = fitting(session.created)?;
         let live = session.registration.capabilities().len() as u32;
-        done(tx.execute(
+        perform(
+            tx,
             "INSERT INTO session (session, account, sample, created, cancelled, certify, live, passed) VALUES (?1, ?2, ?3, ?4, 0, NULL, ?5, 0)",
-            params![
+            &[
                 number,
-                u32::from(session.account),
-                session.registration.sample(),
+                u32::from(session.account).to_sql(),
+                session.registration.sample().to_sql(),
                 created,
-                live,
+                live.to_sql(),
             ],
-        ))
+        )
     }
 }

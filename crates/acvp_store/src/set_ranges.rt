@@ -15,16 +15,20 @@ ghost use Rattle.acvp_store.specs.Ranges.{is_between, IsTree, IsRange, HasStrayR
 ghost use Rattle.acvp_store.specs.Ranges.{HasRowOutside, KeepsSets, IsSetRow, FitsSet};
 ghost use Rattle.acvp_store.specs.Stands.{IsGradedAs, IsSet, set_tree};
 ghost use Rattle.acvp_store.specs.Private.SetRanges.{AreKeptBy, IsGradedBy, HasStraySet};
+ghost use Rattle.acvp_store.specs.Values.{whole};
+ghost use Rattle.acvp_store.specs.Private.Performed.{parameter};
 
-use crate::pages::Member;
+use crate::columns::{field, truth};
+use crate::members::Member;
+use crate::queries::asked;
 use crate::ranges::{Numbers, RangeFault, number_in, ranged};
 use crate::sets::kept_disposition;
-use crate::shown::{field, fitting, truth};
 use acvp_answers::{Answers, TextFault, Verdict, verdicts_from_text};
 use acvp_caps::{CapFault, Capability};
 use acvp_json::{BodyFault, answers_from_text};
 use acvp_tables::{Graded, SetRow, StoreFault};
-use sqlite::{Alter, Connection, Row, params};
+use sqlite::types::ValueRef;
+use sqlite::{Alter, Connection, Row};
 use std::alloc::Global;
 use std::marker::Model;
 
@@ -63,7 +67,7 @@ impl Member for WholeSet {
     ghost use Rattle.std.specs.Prelude.{⊤, IsUtf8};
     ghost use Rattle.acvp_store.specs.Private.SetRanges.{whole_shown, AreTexts};
 
-    ghost listed_as = { whole_shown };
+    ghost shown = { whole_shown };
 
     ghost reads = { λ _. ⊤ };
 
@@ -71,7 +75,7 @@ impl Member for WholeSet {
 
     ghost judged_so = { λ c. IsUtf8 c.capability };
 
-    fn from_row(row: &Row) -> Result<WholeSet, StoreFault> {
+    fn read(row: &Row) -> Result<WholeSet, StoreFault> {
         let number: u64 = field(row, 0)?;
         let session: u64 = field(row, 1)?;
         let capability: String = field(row, 2)?;
@@ -196,9 +200,9 @@ fn set_told(alloc: Global, set: &WholeSet) -> Result<SetRow, RangeFault>
 {
     match set_of(alloc, set) {
         Ok(row) => Ok(row),
-        Err(StoreFault::Refused) => match fitting(set.number) {
+        Err(StoreFault::Refused) => match i64::try_from(set.number) {
             Ok(number) => Err(RangeFault::Stray(number)),
-            Err(fault) => Err(RangeFault::Store(fault)),
+            Err(_) => Err(RangeFault::Store(StoreFault::Refused)),
         },
         Err(StoreFault::Memory) => Err(RangeFault::Store(StoreFault::Memory)),
     }
@@ -239,13 +243,13 @@ fn sets_in(
 
 /// The numbers of an account's vector sets.
 fn set_numbers_of(account: u16) -> Numbers
-    ensures first { result.first ≡ pos (first_set account) }
-    ensures last { result.last ≡ pos (last_set account) }
+    ensures first { parameter result.first ≡ whole (first_set account) }
+    ensures last { parameter result.last ≡ whole (last_set account) }
 {
     let first = i64::from(account) * 100000000;
     Numbers {
-        first,
-        last: first + 99999999,
+        first: ValueRef::Int(first),
+        last: ValueRef::Int(first + 99999999),
     }
 }
 
@@ -271,9 +275,10 @@ pub(crate) fn sets_numbered<S: Alter>(
     let numbers = set_numbers_of(account);
     let found = ranged(
         alloc,
-        conn.query_all(
+        asked(
+            conn,
             "SELECT vs, session, capability, cancelled, answers, verdicts, disposition, epoch FROM vset2 WHERE vs BETWEEN ?1 AND ?2 ORDER BY vs",
-            params![numbers.first, numbers.last],
+            &[numbers.first, numbers.last],
         ),
         0,
     );
@@ -294,7 +299,8 @@ pub(crate) fn set_outside<S: Alter>(conn: &mut Connection<S>) -> Result<Option<i
         ((state S.Store conn.old).now.trees (set_tree layout)))) }
     ensures read { IsRead result (state S.Store conn.old) (state S.Store conn.new) }
 {
-    number_in(conn.query_all(
+    number_in(asked(
+        conn,
         "SELECT vs FROM vset2 WHERE vs NOT BETWEEN 100000000 AND 999999999999 LIMIT 1",
         &[],
     ))

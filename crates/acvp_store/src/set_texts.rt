@@ -13,11 +13,13 @@ ghost use Rattle.acvp_store.specs.Private.SetTexts.{IsCapabilityOf, IsOfCapabili
 ghost use Rattle.acvp_store.specs.Private.SetTexts.{TellsVerdicts, text_shown};
 ghost use Rattle.acvp_store.specs.Private.Shown.{AreMet, is_under};
 
-use crate::shown::{Shown, answered, field, key};
+use crate::columns::{field, key};
+use crate::members::{Member, answered};
+use crate::queries::asked;
 use acvp_answers::{TextFault, Verdict, verdicts_from_text};
 use acvp_caps::{CapFault, Capability};
 use acvp_tables::StoreFault;
-use sqlite::{Alter, Connection, Row, params};
+use sqlite::{Alter, Connection, Row};
 use std::alloc::Global;
 use std::marker::Model;
 
@@ -36,12 +38,14 @@ impl Model for TextColumn {
     ghost view = { λ c. option_map string_bytes c.text };
 }
 
-impl Shown for TextColumn {
+impl Member for TextColumn {
     ghost use Rattle.std.specs.Prelude.{⊤};
     ghost use Rattle.acvp_store.specs.Private.Shown.{IsText};
     ghost use Rattle.acvp_store.specs.Private.SetTexts.{text_shown};
 
     ghost shown = { text_shown };
+
+    ghost reads = { λ _. ⊤ };
 
     ghost fits = { IsText };
 
@@ -108,9 +112,10 @@ pub(crate) fn find_capability<S: Alter>(
 {
     capability_in(
         alloc,
-        answered(conn.query_all(
+        answered(asked(
+            conn,
             "SELECT capability FROM vset2 WHERE vs = ?1",
-            params![key(number)],
+            &[key(number)],
         )),
     )
 }
@@ -164,9 +169,10 @@ pub(crate) fn find_verdicts<S: Alter>(
 {
     verdicts_in(
         alloc,
-        answered(conn.query_all(
+        answered(asked(
+            conn,
             "SELECT verdicts FROM vset2 WHERE vs = ?1",
-            params![key(number)],
+            &[key(number)],
         )),
     )
 }

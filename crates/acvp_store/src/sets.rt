@@ -17,15 +17,16 @@ ghost use Rattle.acvp_store.specs.Private.Sets.{new_set, read_columns, read_show
 ghost use Rattle.acvp_store.specs.Private.Sets.{AddsSets, without_text};
 ghost use Rattle.acvp_store.specs.Private.Shown.{AreMet, is_under};
 
-use crate::fault::done;
-use crate::pages::{Member, listed};
-use crate::shown::{Shown, answered, field, fitting, key, truth};
-use crate::work::Work;
+use crate::columns::{field, fitting, key, truth};
+use crate::members::{Member, answered, listed};
+use crate::queries::asked;
+use crate::work::{Work, perform};
 use acvp_answers::{Disposition, TextFault, disposition, verdicts_from_text, verdicts_to_text};
 use acvp_caps::Capability;
 use acvp_json::{answers_to_text, are_kept_answers};
 use acvp_tables::{Graded, NewSession, SetSummary, StoreFault};
-use sqlite::{Alter, Connection, Row, Transaction, params};
+use sqlite::types::ToSql;
+use sqlite::{Alter, Connection, Row, Transaction};
 use std::alloc::Global;
 use std::marker::Model;
 
@@ -64,7 +65,7 @@ impl Member for ShortSet {
     ghost use Rattle.std.specs.Prelude.{⊤};
     ghost use Rattle.acvp_store.specs.Private.Sets.{short_shown};
 
-    ghost listed_as = { short_shown };
+    ghost shown = { short_shown };
 
     ghost reads = { λ _. ⊤ };
 
@@ -72,7 +73,7 @@ impl Member for ShortSet {
 
     ghost judged_so = { λ _. ⊤ };
 
-    fn from_row(row: &Row) -> Result<ShortSet, StoreFault> {
+    fn read(row: &Row) -> Result<ShortSet, StoreFault> {
         let number: u64 = field(row, 0)?;
         let session: u64 = field(row, 1)?;
         let cancelled = truth(row, 2)?;
@@ -121,12 +122,14 @@ impl Model for ReadSet {
     } };
 }
 
-impl Shown for ReadSet {
+impl Member for ReadSet {
     ghost use Rattle.std.specs.Prelude.{⊤};
     ghost use Rattle.acvp_store.specs.Private.Shown.{IsText};
     ghost use Rattle.acvp_store.specs.Private.Sets.{read_shown};
 
     ghost shown = { read_shown };
+
+    ghost reads = { λ _. ⊤ };
 
     ghost fits = { λ s. IsText s.answers × IsText s.verdicts };
 
@@ -293,9 +296,10 @@ pub(crate) fn find_set<S: Alter>(
 {
     summarized(
         alloc,
-        answered(conn.query_all(
+        answered(asked(
+            conn,
             "SELECT vs, session, cancelled, answers, verdicts, disposition, epoch FROM vset2 WHERE vs = ?1",
-            params![key(number)],
+            &[key(number)],
         )),
     )
 }
@@ -357,20 +361,23 @@ pub(crate) fn find_sets<S: Alter>(
         alloc,
         listed(
             alloc,
-            conn.query_all(
+            asked(
+                conn,
                 "SELECT vs, session, cancelled, answers IS NULL, verdicts, disposition, epoch FROM vset2 WHERE vs BETWEEN ?1 AND ?2 AND cancelled <> 1 ORDER BY vs",
-                params![key(first), key(first + 99)],
+                &[key(first), key(first + 99)],
             ),
         ),
     )
 }
 
 /// An epoch alone in its row, or NULL.
-impl Shown for Option<u64> {
+impl Member for Option<u64> {
     ghost use Rattle.std.specs.Prelude.{⊤};
     ghost use Rattle.acvp_store.specs.Private.Sets.{epoch_shown};
 
     ghost shown = { epoch_shown };
+
+    ghost reads = { λ _. ⊤ };
 
     ghost fits = { λ _. ⊤ };
 
@@ -402,7 +409,7 @@ pub(crate) fn find_epoch<S: Alter>(conn: &mut Connection<S>) -> Result<Option<u6
         → HoldsSets ((state S.Store conn.old).now.trees (set_tree layout)) sets → found ≡ greatest_epoch_of sets)) }
     ensures read { IsRead result (state S.Store conn.old) (state S.Store conn.new) }
 {
-    epoch_in(answered(conn.query_all("SELECT MAX(epoch) FROM vset2", &[])))
+    epoch_in(answered(asked(conn, "SELECT MAX(epoch) FROM vset2", &[])))
 }
 
 /// A vector set that is cancelled, without the counters of its session.
@@ -422,10 +429,11 @@ impl Work for SetCancelled {
 
     fn run<S: Alter>(&self, tx: &mut Transaction<'_, S>) -> Result<(), StoreFault> {
         let number = fitting(self.number)?;
-        done(tx.execute(
+        perform(
+            tx,
             "UPDATE vset2 SET cancelled = 1 WHERE vs = ?1",
-            params![number],
-        ))
+            &[number],
+        )
     }
 }
 
@@ -453,10 +461,16 @@ impl<'a> Work for GradedSet<'a> {
         let Some(disposition) = kept_disposition(self.graded.disposition()) else {
             return Err(StoreFault::Refused);
         };
-        done(tx.execute(
+        perform(
+            tx,
             "UPDATE vset2 SET answers = ?2, verdicts = ?3, disposition = ?4 WHERE vs = ?1",
-            params![number, &answers, &verdicts, disposition],
-        ))
+            &[
+                number,
+                answers.as_str().to_sql(),
+                verdicts.as_str().to_sql(),
+                disposition.to_sql(),
+            ],
+        )
     }
 }
 
@@ -477,10 +491,11 @@ fn insert_set<S: Alter>(
     let session = fitting(session)?;
     let epoch = fitting(epoch)?;
     let text = capability.to_text(alloc)?;
-    done(tx.execute(
+    perform(
+        tx,
         "INSERT INTO vset2 (vs, session, capability, cancelled, answers, verdicts, disposition, epoch) VALUES (?1, ?2, ?3, 0, NULL, NULL, NULL, ?4)",
-        params![number, session, &text, epoch],
-    ))
+        &[number, session, text.as_str().to_sql(), epoch],
+    )
 }
 
 /// The vector sets of a new test session.

@@ -4,8 +4,7 @@ ghost use Rattle.acvp_store.specs.Connection.{Under};
 ghost use Rattle.acvp_store.specs.Schema.{Created, schema_of};
 ghost use Rattle.acvp_store.specs.Private.Creating.{text_of, before, Makes, WritesVersion};
 
-use crate::fault::done;
-use crate::work::Work;
+use crate::work::{Work, perform};
 use acvp_tables::StoreFault;
 use sqlite::{Alter, Transaction};
 
@@ -68,7 +67,7 @@ impl Work for StoreTable {
     ghost change = { λ t. Under (before t) (Makes t) };
 
     fn run<S: Alter>(&self, tx: &mut Transaction<'_, S>) -> Result<(), StoreFault> {
-        done(tx.execute(self.text(), &[]))
+        perform(tx, self.text(), &[])
     }
 }
 
@@ -84,6 +83,10 @@ impl Work for Version {
     ghost change = { λ _. Under (schema_of Created) (WritesVersion 3) };
 
     fn run<S: Alter>(&self, tx: &mut Transaction<'_, S>) -> Result<(), StoreFault> {
-        done(tx.execute("INSERT INTO meta (name, value) VALUES ('schema', 3)", &[]))
+        perform(
+            tx,
+            "INSERT INTO meta (name, value) VALUES ('schema', 3)",
+            &[],
+        )
     }
 }

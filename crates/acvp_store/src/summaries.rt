@@ -17,9 +17,9 @@ ghost use Rattle.acvp_store.specs.Stands.{BodyReads, certification_data, status_
 ghost use Rattle.acvp_store.specs.Private.Summaries.{purpose_number, purpose_text, FitsCertification, FitsPurpose};
 ghost use Rattle.acvp_store.specs.Private.Summaries.{PurposeReads};
 
-use crate::pages::Member;
+use crate::columns::{account_number, field};
+use crate::members::Member;
 use crate::requests::certification_text;
-use crate::shown::{Shown, account_number, field};
 use acvp_caps::json::{number_at, text_at};
 use acvp_registry::{Kind, RegFault, body_value, url_number};
 use acvp_tables::{Certification, RequestPurpose, RequestStatus, RequestSummary, StoreFault};
@@ -128,11 +128,13 @@ pub(crate) fn status(number: u32, given: Option<u64>) -> Result<RequestStatus, S
     }
 }
 
-impl Shown for RequestStatus {
+impl Member for RequestStatus {
     ghost use Rattle.std.specs.Prelude.{⊤};
     ghost use Rattle.acvp_store.specs.Private.Summaries.{status_shown};
 
     ghost shown = { status_shown };
+
+    ghost reads = { λ _. ⊤ };
 
     ghost fits = { λ _. ⊤ };
 
@@ -151,7 +153,7 @@ impl Member for RequestSummary {
     ghost use Rattle.acvp_store.specs.Private.Summaries.{FitsPurpose, purpose_text};
     ghost use Rattle.acvp_store.specs.Private.Summaries.{PurposeReads, summary_shown};
 
-    ghost listed_as = { summary_shown };
+    ghost shown = { summary_shown };
 
     ghost reads = { λ s. PurposeReads s.purpose };
 
@@ -159,7 +161,7 @@ impl Member for RequestSummary {
 
     ghost judged_so = { λ s. s.account < 2 ^ 16 };
 
-    fn from_row(row: &Row) -> Result<RequestSummary, StoreFault> {
+    fn read(row: &Row) -> Result<RequestSummary, StoreFault> {
         let number: u64 = field(row, 0)?;
         let account = account_number(row, 1)?;
         let kind: u32 = field(row, 2)?;

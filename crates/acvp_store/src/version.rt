@@ -10,9 +10,11 @@ ghost use Rattle.acvp_store.specs.Schema.{Migrated, schema_at, second_schema, ve
 ghost use Rattle.acvp_store.specs.Private.Migration.{version_of, HasOldTable};
 
 use crate::migration::Earlier;
+use crate::queries::asked;
 use crate::reviewers::any;
 use acvp_tables::StoreFault;
-use sqlite::{Alter, Connection, params};
+use sqlite::types::ToSql;
+use sqlite::{Alter, Connection};
 
 /// Whether `meta` has the row 'schema' at a version.
 pub(crate) fn has_version<S: Alter>(
@@ -25,9 +27,10 @@ pub(crate) fn has_version<S: Alter>(
         → IfOk result (λ found. found ≡ list_any (is_version_row version) ((state S.Store conn.old).now.trees 0)) }
     ensures read { IsRead result (state S.Store conn.old) (state S.Store conn.new) }
 {
-    any(conn.query_all(
+    any(asked(
+        conn,
         "SELECT value FROM meta WHERE name = 'schema' AND value = ?1",
-        params![version],
+        &[version.to_sql()],
     ))
 }
 
@@ -39,7 +42,7 @@ pub(crate) fn has_old_sets<S: Alter>(conn: &mut Connection<S>) -> Result<bool, S
         → IfOk result (λ found. found ≡ nat_lt 0 (length ((state S.Store conn.old).now.trees 4))) }
     ensures read { IsRead result (state S.Store conn.old) (state S.Store conn.new) }
 {
-    any(conn.query_all("SELECT vs FROM vset", &[]))
+    any(asked(conn, "SELECT vs FROM vset", &[]))
 }
 
 /// Whether the rows are those of the earlier schema whose tables are there: `meta` names its version, and the table of

@@ -2,10 +2,13 @@
 ghost use Rattle.std.specs.Prelude.{◌≡◌};
 ghost use Rattle.sqlite.specs.Effect.{Database};
 ghost use Rattle.sqlite.specs.Held.{state};
+ghost use Rattle.sqlite.specs.Values.{bound};
 ghost use Rattle.acvp_store.specs.Connection.{IsReady, IsInside, IsWritten, Both};
+ghost use Rattle.acvp_store.specs.Private.Performed.{IsPerformed};
 
-use crate::fault::fault_of;
+use crate::fault::{done, fault_of};
 use acvp_tables::StoreFault;
+use sqlite::types::ValueRef;
 use sqlite::{Alter, Connection, Transaction};
 
 /// What is done inside a transaction.
@@ -17,6 +20,19 @@ pub(crate) trait Work {
         ensures same_reference { tx.new.conn.ghost_name ≡ tx.old.conn.ghost_name }
         ensures inside { IsInside result (state S.Store tx.old.conn.now) (state S.Store tx.new.conn.now)
             (change self.now) };
+}
+
+/// Executes one statement inside a transaction.
+pub(crate) fn perform<S: Alter>(
+    tx: &mut Transaction<'_, S>,
+    sql: &str,
+    params: &[ValueRef<'_>],
+) -> Result<(), StoreFault>
+    ensures same_reference { tx.new.conn.ghost_name ≡ tx.old.conn.ghost_name }
+    ensures performed { IsPerformed result sql.now (bound params.now) (state S.Store tx.old.conn.now)
+        (state S.Store tx.new.conn.now) }
+{
+    done(tx.execute(sql, params))
 }
 
 /// One work, and then another.

@@ -1,11 +1,8 @@
 -- What is read of a row, as a query shows it; and which rows a query meets.
 use Rattle.std.specs.Prelude.{◌≡◌, ◌≢◌, ◌<◌, ◌⊎◌, ⊤, ℕ, ℤ, List, take, length, slice_get, Bool, not, ◌&&◌, Option, Some}
-use Rattle.std.specs.Prelude.{None, Result, Ok, Err, IsUtf8}
+use Rattle.std.specs.Prelude.{None, IsUtf8}
 use Rattle.std.specs.List.{AllZip, AllByRecursion, filter}
 use Rattle.std.specs.Ordering.{is_le, is_ge}
-use Rattle.sqlite.specs.declared.error.Error.{Error}
-use Rattle.sqlite.specs.declared.error.Error.TheVariants.{SqliteFailure}
-use Rattle.sqlite.specs.declared.error.ErrorCode.TheVariants.{OutOfMemory}
 use Rattle.sqlite_sql.specs.Ops.{is_null}
 use Rattle.sqlite_value.specs.declared.value.Value.{Value}
 use Rattle.sqlite_value.specs.declared.value.Value.TheVariants.{Int}
@@ -42,11 +39,6 @@ HasOneOfNone fits shown rows = (at : ℕ) × (row : Row) × (slice_get rows at �
 -- why one row isn't told: there are more, or it is that of none
 abbrev pub HasNoOne : {T : Type 0} → (T → Type 0) → (T → Row) → List Row → Type 0
 HasNoOne fits shown rows = (1 < length rows) ⊎ HasOneOfNone fits shown rows
-
--- why a query's answer is Refused: a statement was, and not for want of memory; or its rows are
-abbrev pub IsRefusedOf : {X : Type 0} → (X → Type 0) → Result X Error → Type 0
-IsRefusedOf refuses (Ok x) = refuses x
-IsRefusedOf refuses (Err e) = e ≢ SqliteFailure OutOfMemory
 
 -- a text that is there is one of UTF-8
 abbrev pub IsText : Option (List ℕ) → Type 0

@@ -1,33 +1,27 @@
 use Rattle.acvp_store.proofs.Words.{account_tree, refl}
 use Rattle.acvp_store.proofs.RangeOutside.{all_within}
-use Rattle.acvp_store.proofs.Told.{told}
-use Rattle.acvp_store.proofs.QueryLeaves.{clean_if_open}
 use Rattle.acvp_store.proofs.RangeColumns.{outside_none, outside_told}
-use Rattle.acvp_store.proofs.Readings.{AccountOutside, reads_rows}
+use Rattle.acvp_store.proofs.Finding.{AccountOutside, is_query, read_as, told}
 use Rattle.acvp_store.proofs.ranges.account_outside.Goals as goal
 
 pub returns-clause-read : goal.returns-clause-read
 returns-clause-read g c =
-    reads_rows AccountOutside _ _ _ c.query_all.ensures.survives
-    (g.met.S.Store.shut_if_dirty c.query_all.new.self.store) (λ live. (c.requires live).ready)
-    c.query_all.result (λ v. v.items) c.query_all.ensures.ok c.query_all.ensures.err
-    c.number_in.result c.number_in.ensures.ok
+    read_as c.asked.result c.number_in.result _ _ c.number_in.ensures.ok
+    (c.asked.ensures.read (λ live. (c.requires live).ready) (is_query AccountOutside))
 
 pub returns-clause-none : goal.returns-clause-none
 returns-clause-none g c live =
-    let clean = clean_if_open _ _ (g.met.S.Store.shut_if_dirty c.query_all.new.self.store) live in
     let store = c.requires ((returns-clause-read g c).stays.was_open live) in
-    told c.query_all.result c.number_in.result c.number_in.ensures.ok _ _ _
+    told c.asked.result c.number_in.result c.number_in.ensures.ok _ _ _
     (λ rows found is shown tree none. all_within 1 9999 _ tree.1
     (outside_none AccountOutside store.schema.0 account_tree 1 9999 refl (λ trees. refl) _ _ rows.items store.schema.1
     shown (is none)))
-    c.number_in.ensures.none (c.query_all.ensures.ok clean)
+    c.number_in.ensures.none (c.asked.ensures.shown live)
 
 pub returns-clause-some : goal.returns-clause-some
 returns-clause-some g c live =
-    let clean = clean_if_open _ _ (g.met.S.Store.shut_if_dirty c.query_all.new.self.store) live in
     let store = c.requires ((returns-clause-read g c).stays.was_open live) in
-    told c.query_all.result c.number_in.result c.number_in.ensures.ok _ _ _
+    told c.asked.result c.number_in.result c.number_in.ensures.ok _ _ _
     (λ rows found is shown number at. outside_told AccountOutside store.schema.0 account_tree 1 9999 refl
     (λ trees. refl) _ _ rows.items store.schema.1 shown number (is number at))
-    c.number_in.ensures.some (c.query_all.ensures.ok clean)
+    c.number_in.ensures.some (c.asked.ensures.shown live)

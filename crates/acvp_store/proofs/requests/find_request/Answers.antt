@@ -6,7 +6,8 @@ use Rattle.acvp_store.proofs.requests.find_request.Goals as goal
 
 pub returns-clause-read : goal.returns-clause-read
 returns-clause-read g c =
-    read_as c.find_whole_request.result c.summarized.result _ _ c.summarized.ensures.ok c.find_whole_request.ensures.read
+    read_as c.find_whole_request.result c.summarized.result _ _ c.summarized.ensures.ok
+    c.find_whole_request.ensures.read
 
 pub returns-clause-found : goal.returns-clause-found
 returns-clause-found g c live =

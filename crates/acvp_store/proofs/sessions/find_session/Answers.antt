@@ -1,42 +1,32 @@
-use Rattle.std.proofs.Common.{◌∙◌, rules, w64, to_z-of_z}
+use Rattle.std.proofs.Common.{◌∙◌}
 use Rattle.acvp_store.proofs.Words.{IfOk-weaker, is_under, option_to_list, session_columns, session_key, session_row}
-use Rattle.acvp_store.proofs.Words.{session_shown, SFits}
-use Rattle.acvp_store.proofs.Keyed.{keyed}
-use Rattle.acvp_store.proofs.Told.{first_kept, told}
-use Rattle.acvp_store.proofs.Readings.{SessionAt, reads_rows}
-use Rattle.acvp_store.proofs.QueryRows.{met_as_found}
+use Rattle.acvp_store.proofs.Words.{session_shown}
 use Rattle.acvp_store.proofs.RowsMet.{session_met}
-use Rattle.acvp_store.proofs.QueryLeaves.{clean_if_open}
 use Rattle.acvp_store.proofs.MemberRows.{session_rows}
+use Rattle.acvp_store.proofs.Finding.{first_kept, is_query, keyed, met_as_found, read_as, SessionAt, told, unread}
 use Rattle.acvp_store.proofs.sessions.find_session.Goals as goal
 
 pub returns-clause-read : goal.returns-clause-read
 returns-clause-read g c =
-    reads_rows SessionAt _ _ _ c.query_all.ensures.survives
-    (g.met.S.Store.shut_if_dirty c.query_all.new.self.store) (λ live. (c.requires live).ready)
-    c.query_all.result (λ v. v.items) c.query_all.ensures.ok c.query_all.ensures.err
-    c.answered.result c.answered.ensures.ok
+    read_as c.asked.result c.answered.result _ _ c.answered.ensures.ok
+    (c.asked.ensures.read (λ live. (c.requires live).ready) (is_query SessionAt))
 
 pub returns-clause-found : goal.returns-clause-found
 returns-clause-found g c live =
-    let clean = clean_if_open _ _ (g.met.S.Store.shut_if_dirty c.query_all.new.self.store) live in
-    let fit : SFits w64 c.key.result = search rules in
     let store = c.requires ((returns-clause-read g c).stays.was_open live) in
-    told c.query_all.result c.answered.result c.answered.ensures.ok _ _ _
-    (λ rows row is shown list kept. is (keyed session_key c.args.number kept.ordered)
-    (session_rows store.schema.0 c.args.number c.key.result c.key.ensures.fits c.key.ensures.too_large _ _ rows.items
-    store.schema.1 (rw (c.params-to_sql.ensures, to_z-of_z fit) at shown) list kept)
+    told c.asked.result c.answered.result c.answered.ensures.ok _ _ _
+    (λ rows row is shown list kept. is (keyed session_key c.args.number kept.ordered) (unread _)
+    (session_rows store.schema.0 c.args.number _ c.key.ensures.fits c.key.ensures.too_large _ _ rows.items
+    store.schema.1 shown list kept)
     ∙ first_kept session_key session_row c.args.number _ list kept)
-    c.answered.ensures.found (c.query_all.ensures.ok clean)
+    c.answered.ensures.found (c.asked.ensures.shown live)
 
 pub returns-clause-judged : goal.returns-clause-judged
 returns-clause-judged g c live low =
-    let clean = clean_if_open _ _ (g.met.S.Store.shut_if_dirty c.query_all.new.self.store) live in
-    let fit : SFits w64 c.key.result = search rules in
     let store = c.requires ((returns-clause-read g c).stays.was_open live) in
     met_as_found (is_under c.args.number) session_columns session_shown _ (λ row x is. is) _ (λ v. v.items)
-    option_to_list c.query_all.result c.answered.result c.answered.result c.answered.ensures.ok (λ ok. ok)
+    option_to_list c.asked.result c.answered.result c.answered.ensures.ok
     c.answered.ensures.judged
-    (IfOk-weaker c.query_all.result _ _
-    (λ rows shown. session_met store.schema.0 c.args.number c.key.result low c.key.ensures.fits _ _ rows.items
-    store.schema.1 (rw (c.params-to_sql.ensures, to_z-of_z fit) at shown)) (c.query_all.ensures.ok clean))
+    (IfOk-weaker c.asked.result _ _
+    (λ rows shown. session_met store.schema.0 c.args.number _ low c.key.ensures.fits _ _ rows.items
+    store.schema.1 shown) (c.asked.ensures.shown live))

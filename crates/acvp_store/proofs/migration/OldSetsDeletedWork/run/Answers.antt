@@ -1,14 +1,11 @@
-use Rattle.acvp_store.proofs.Words.{[], ap, EmptiesOldSets, Migrated, schema_of, state}
+use Rattle.acvp_store.proofs.Words.{[], EmptiesOldSets, Migrated, schema_of, state}
 use Rattle.acvp_store.proofs.Texts.{delete_sets, deletes_sets}
-use Rattle.acvp_store.proofs.Together.{does_inside}
+use Rattle.acvp_store.proofs.Together.{inside}
 use Rattle.acvp_store.proofs.MadeTables.{delete_effect}
 use Rattle.acvp_store.proofs.migration.OldSetsDeletedWork.run.Goals as goal
 
 pub returns-clause-inside : goal.returns-clause-inside
 returns-clause-inside g c =
     let old = state g.S.Store c.args.tx.now.conn.now in
-    does_inside (schema_of Migrated) delete_sets [] old _
-    (g.met.S.Store.shut_if_dirty c.execute.new.self.conn.now.store) _ deletes_sets (λ count w. w)
-    c.execute.result c.done.result c.done.ensures c.execute.ensures.runs
-    (λ off. ap (state g.S.Store) (c.execute.ensures.ended off).1) c.execute.ensures.survives EmptiesOldSets
-    (delete_effect old)
+    inside (schema_of Migrated) delete_sets [] _ _ _ deletes_sets (λ count w. w) EmptiesOldSets (delete_effect old) _
+    c.perform.ensures.performed

@@ -1,5 +1,4 @@
-use Rattle.std.proofs.Common.{ap, [], ◌∷◌, rules, w64, to_z-of_z}
-use Rattle.acvp_store.proofs.Words.{SFits, state, whole}
+use Rattle.acvp_store.proofs.Words.{state}
 use Rattle.acvp_store.proofs.Writings.{SetCancelled, writes}
 use Rattle.acvp_store.proofs.SetRows.{cancel_set_effect}
 use Rattle.acvp_store.proofs.sets.SetCancelledWork.run.Goals as goal
@@ -7,11 +6,5 @@ use Rattle.acvp_store.proofs.sets.SetCancelledWork.run.Goals as goal
 pub returns-clause-inside : goal.returns-clause-inside
 returns-clause-inside g c =
     let old = state g.S.Store c.args.tx.now.conn.now in
-    let s = c.args.self.now in
-    let fit_number : SFits w64 c.in_ok-number.number = search rules in
-    writes SetCancelled (whole s.number ∷ []) old _ (g.met.S.Store.shut_if_dirty c.execute.new.self.conn.now.store)
-    c.execute.result c.done.result c.done.ensures
-    (λ clean on. rw (c.params-to_sql.ensures, to_z-of_z fit_number, c.in_ok-number.ensures.1) at (c.execute.ensures.runs
-    clean on))
-    (λ off. ap (state g.S.Store) (c.execute.ensures.ended off).1) c.execute.ensures.survives
-    _ (λ layout. cancel_set_effect layout old s.number)
+    writes SetCancelled _ _ _ _ (rw c.in_ok-number.ensures.1 at c.perform.ensures.performed) _
+    (λ layout. cancel_set_effect layout old _)

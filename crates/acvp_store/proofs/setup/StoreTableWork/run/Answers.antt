@@ -1,6 +1,6 @@
-use Rattle.acvp_store.proofs.Words.{[], ap, before, Makes, state, text_of}
+use Rattle.acvp_store.proofs.Words.{[], before, Makes, text_of, state}
 use Rattle.acvp_store.proofs.Texts.{is_making}
-use Rattle.acvp_store.proofs.Together.{does_inside}
+use Rattle.acvp_store.proofs.Together.{inside}
 use Rattle.acvp_store.proofs.MadeTables.{make_effect}
 use Rattle.acvp_store.proofs.setup.StoreTableWork.run.Goals as goal
 
@@ -9,8 +9,5 @@ returns-clause-inside g c =
     let old = state g.S.Store c.args.tx.now.conn.now in
     let t = c.args.self.now in
     let text = is_making t in
-    does_inside (before t) (text_of t) [] old _ (g.met.S.Store.shut_if_dirty c.execute.new.self.conn.now.store) _
-    (text.0, text.3) (λ count w. w)
-    c.execute.result c.done.result c.done.ensures (rw c.text.ensures at c.execute.ensures.runs)
-    (λ off. ap (state g.S.Store) (c.execute.ensures.ended off).1) c.execute.ensures.survives (Makes t)
-    (make_effect old t)
+    inside (before t) (text_of t) [] _ _ _ (text.0, text.3) (λ count w. w) (Makes t) (make_effect old t) _
+    (rw c.text.ensures at c.perform.ensures.performed)

@@ -1,9 +1,9 @@
-use Rattle.acvp_store.proofs.KeptPromises.{changes, added}
+use Rattle.acvp_tables.specs.Changes.{after_order}
+use Rattle.acvp_store.proofs.KeptPromises.{accounts_altered, changes}
 use Rattle.acvp_store.proofs.store.SqlTables.add_account.Goals as goal
 
 pub returns : goal.returns
+unfolding after_order
 returns g c =
-    let x = c.args.account.now in
-    rw (← c.self.view_is)
-    (changes g.S.Store c.self.inside.connection c.commit.new.conn _ _ c.self.invariant (λ layout d e h. h.schema)
-    (added x) c.commit.result c.commit.ensures)
+    rw (← c.self.view_is) (changes g.S.Store _ _ _ _ c.self.invariant (λ layout d e h. h.schema)
+    (λ layout d e h. accounts_altered _ layout d e h) _ c.commit.ensures)

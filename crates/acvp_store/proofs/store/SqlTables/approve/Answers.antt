@@ -3,6 +3,5 @@ use Rattle.acvp_store.proofs.store.SqlTables.approve.Goals as goal
 
 pub returns : goal.returns
 returns g c =
-    let x = c.args.approval.now in
-    rw (← c.self.view_is) (changes_both g.S.Store c.self.inside.connection c.commit.new.conn _ _ _ c.self.invariant
-    (λ layout d e h. h.schema) (λ layout d e h. h.schema) (approved x) c.commit.result c.commit.ensures)
+    rw (← c.self.view_is) (changes_both g.S.Store _ _ _ _ _ c.self.invariant (λ layout d e h. h.schema)
+    (λ layout d e h. h.schema) (approved c.args.approval.now) _ c.commit.ensures)

@@ -1,9 +1,9 @@
-use Rattle.acvp_store.proofs.KeptPromises.{changes, cancelled}
+use Rattle.acvp_tables.specs.Changes.{after}
+use Rattle.acvp_store.proofs.KeptPromises.{sessions_altered, changes}
 use Rattle.acvp_store.proofs.store.SqlTables.cancel_session.Goals as goal
 
 pub returns : goal.returns
+unfolding after
 returns g c =
-    let n = c.args.number in
-    rw (← c.self.view_is)
-    (changes g.S.Store c.self.inside.connection c.commit.new.conn _ _ c.self.invariant (λ layout d e h. h.schema)
-    (cancelled n) c.commit.result c.commit.ensures)
+    rw (← c.self.view_is) (changes g.S.Store _ _ _ _ c.self.invariant (λ layout d e h. h.schema)
+    (λ layout d e h. sessions_altered _ layout d e h) _ c.commit.ensures)

@@ -1,8 +1,11 @@
-use Rattle.acvp_store.proofs.KeptPromises.{changes_both, certification_asked}
+use Rattle.acvp_tables.specs.Changes.{after}
+use Rattle.acvp_store.proofs.KeptPromises.{changes_both, requests_altered, sessions_altered}
 use Rattle.acvp_store.proofs.store.SqlTables.certify.Goals as goal
 
 pub returns : goal.returns
+unfolding after
 returns g c =
-    let x = c.args.request.now in
-    rw (← c.self.view_is) (changes_both g.S.Store c.self.inside.connection c.commit.new.conn _ _ _ c.self.invariant
-    (λ layout d e h. h.schema) (λ layout d e h. h.schema) (certification_asked x) c.commit.result c.commit.ensures)
+    rw (← c.self.view_is) (changes_both g.S.Store _ _ _ _ _ c.self.invariant (λ layout d e h. h.schema)
+    (λ layout d e h. h.schema)
+    (λ layout d e h content sound st. sessions_altered _ layout h.0 e h.2 _
+    (requests_altered _ layout d h.0 h.1 content st)) _ c.commit.ensures)

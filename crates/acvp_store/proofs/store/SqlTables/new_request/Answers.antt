@@ -1,9 +1,9 @@
-use Rattle.acvp_store.proofs.KeptPromises.{changes, request_made}
+use Rattle.acvp_tables.specs.Changes.{after}
+use Rattle.acvp_store.proofs.KeptPromises.{requests_altered, changes}
 use Rattle.acvp_store.proofs.store.SqlTables.new_request.Goals as goal
 
 pub returns : goal.returns
+unfolding after
 returns g c =
-    let r = c.args.request.now in
-    rw (← c.self.view_is)
-    (changes g.S.Store c.self.inside.connection c.commit.new.conn _ _ c.self.invariant (λ layout d e h. h.schema)
-    (request_made r) c.commit.result c.commit.ensures)
+    rw (← c.self.view_is) (changes g.S.Store _ _ _ _ c.self.invariant (λ layout d e h. h.schema)
+    (λ layout d e h. requests_altered _ layout d e h) _ c.commit.ensures)

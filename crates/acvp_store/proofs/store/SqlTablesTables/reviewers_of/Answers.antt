@@ -4,10 +4,8 @@ use Rattle.acvp_store.proofs.store.SqlTablesTables.reviewers_of.Goals as goal
 
 pub returns-clause-reads : goal.returns-clause-reads
 returns-clause-reads g c =
-    let old = c.self.inside.connection in
-    rw (← c.self.view_is) (reads g.S.Store old c.find_reviewers.new.conn c.self.invariant
-    (λ db live may. g.met.S.Store.settled old.store db live may) c.find_reviewers.result
-    c.find_reviewers.ensures.read)
+    rw (← c.self.view_is)
+    (reads g.S.Store _ _ c.self.invariant (g.met.S.Store.settled _) _ c.find_reviewers.ensures.read)
 
 pub returns-clause-found : goal.returns-clause-found
 returns-clause-found g c =

@@ -3,7 +3,5 @@ use Rattle.acvp_store.proofs.store.SqlTablesTables.sessions.Goals as goal
 
 pub returns-clause-reads : goal.returns-clause-reads
 returns-clause-reads g c =
-    let old = c.self.inside.connection in
-    rw (← c.self.view_is) (reads g.S.Store old c.page_sessions.new.conn c.self.invariant
-    (λ db live may. g.met.S.Store.settled old.store db live may) c.page_sessions.result
-    c.page_sessions.ensures.read)
+    rw (← c.self.view_is)
+    (reads g.S.Store _ _ c.self.invariant (g.met.S.Store.settled _) _ c.page_sessions.ensures.read)

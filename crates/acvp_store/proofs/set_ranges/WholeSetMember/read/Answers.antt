@@ -1,7 +1,7 @@
 use Rattle.sqlite_value.specs.Order.{column}
 use Rattle.acvp_store.proofs.Words.{IsUtf8-string_bytes, option_map, SetColumns, string_bytes}
 use Rattle.acvp_store.proofs.SetRanges.{begins, text_column, number_column}
-use Rattle.acvp_store.proofs.set_ranges.WholeSetMember.from_row.Goals as goal
+use Rattle.acvp_store.proofs.set_ranges.WholeSetMember.read.Goals as goal
 
 pub returns-clause-judged : goal.returns-clause-judged
 returns-clause-judged c =

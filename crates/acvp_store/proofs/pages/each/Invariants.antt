@@ -1,6 +1,0 @@
-use Rattle.acvp_store.proofs.Words.{AllZip, AreShown, IsRowOf, take}
-use Rattle.acvp_store.proofs.pages.each.Given as goal
-
-abbrev pub invariant-loop-row : goal.invariant-loop-row
-invariant-loop-row g l = AllZip (IsRowOf g.T.Member.reads g.T.Member.listed_as) (take l.row-index l.rows) l.found.items
-    × AreShown g.T.Member.judged_so g.T.Member.listed_as (take l.row-index l.rows) l.found.items
