@@ -1,12 +1,37 @@
 //! Names, domains and registrations, with values worked out by hand from the rules.
+//!
+//! Most cases are lines of text, since a check takes long over a table of constants, and no time over a text.
 
-use acvp_caps::{Algorithm, CapFault, Capability, Domains, Registration, read_registration};
+use acvp_caps::{
+    Algorithm, CapFault, Capability, Domain, Domains, Registration, read_registration,
+};
 use acvp_mac::HashName;
 use serde_json::Value;
-use std::alloc::{AllocError, Global};
-use std::test::Fail;
+use std::alloc::Global;
+use std::process::Abort;
 
-// An algorithm's number, name, hash function, bits of a block and of a digest, and whether it is HMAC.
+/// What stands before the first space of a text, and behind it.
+fn cut(text: &str) -> (&str, &str) {
+    match text.split_once(' ') {
+        Some(parts) => parts,
+        None => (text, ""),
+    }
+}
+
+/// That what a line says is so.
+fn is_so(rt: &impl Abort, holds: bool, line: &str) {
+    assert!(rt; holds, "{line}");
+}
+
+/// The capability that a text is.
+fn capability(rt: &impl Abort, alloc: Global, text: &str) -> Capability {
+    match Capability::from_text(alloc, text) {
+        Ok(capability) => capability,
+        Err(_) => panic!(rt; "no capability: {text}"),
+    }
+}
+
+/// An algorithm's number, name, hash function, bits of a block and of a digest, and whether it is HMAC.
 type Described = (u64, &'static str, HashName, u64, u64, bool);
 
 const DESCRIBED: [Described; 12] = [
@@ -49,398 +74,360 @@ fn described(algorithm: Algorithm) -> Described {
     )
 }
 
-// The algorithm of this number, where all stand in the order of their numbers from 1 on.
+/// The algorithm of this number, where all stand in the order of their numbers from 1 on.
 fn numbered(number: u64) -> Option<Algorithm> {
     let place = (number as usize).checked_sub(1)?;
     Algorithm::all().get(place).copied()
 }
 
-#[test]
-fn the_algorithms_have_their_names(rt: HostRuntime) {
-    for wanted in DESCRIBED.iter() {
-        let (number, name, _, _, _, _) = *wanted;
-        let found = Algorithm::from_name(name);
-        assert!(rt; found.map(described) == Some(*wanted), "{name}");
-        assert!(rt; found == numbered(number), "{name}");
-    }
-    assert!(rt; Algorithm::from_name("SHA-1").is_none());
-    assert!(rt; Algorithm::from_name("HMAC-").is_none());
+/// That an algorithm is what is wanted of it, and stands at its number.
+fn is_described(rt: &impl Abort, wanted: &Described) {
+    let (number, name, _, _, _, _) = *wanted;
+    let found = Algorithm::from_name(name);
+    is_so(rt, found == numbered(number), name);
+    let algorithm = found.expect(rt, "an algorithm");
+    is_so(rt, described(algorithm) == *wanted, name);
 }
 
-// How many members a domain has, the least and the greatest, the member at a place, and whether the place's number is
-// a member.
-type Seen = (u64, u64, u64, Option<u64>, bool);
+#[test]
+fn the_algorithms_have_their_names(rt: HostRuntime) {
+    for wanted in &DESCRIBED {
+        is_described(&rt, wanted);
+    }
+    is_so(&rt, Algorithm::from_name("SHA-1").is_none(), "SHA-1");
+    is_so(&rt, Algorithm::from_name("HMAC-").is_none(), "HMAC-");
+}
 
-// What is seen of the domain of a message or a key.
-fn seen_of(capability: &Capability, place: u64) -> Seen {
-    let domain = match capability.domains() {
-        Domains::Message(message) => message,
-        Domains::KeyAndMac { key, .. } => key,
-    };
-    let count = domain.count();
-    let member = if place < count {
+/// Texts of capabilities, each behind its name.
+const TEXTS: &str =
+    r#"overlapping {"algorithm":"SHA2-256","revision":"1.0","messageLength":[{"min":0,"max":48,"increment":16},{"min":0,"max":48,"increment":24}]}
+twice_the_same {"algorithm":"SHA2-256","revision":"1.0","messageLength":[8,8]}
+end_unmet {"algorithm":"SHA2-256","revision":"1.0","messageLength":[{"min":0,"max":1020,"increment":8}]}
+one_of_a_range {"algorithm":"SHA2-256","revision":"1.0","messageLength":[{"min":16,"max":18446744073709551615,"increment":18446744073709551608}]}
+widest {"algorithm":"SHA2-256","revision":"1.0","messageLength":[{"min":0,"max":65536,"increment":8}]}
+spread {"algorithm":"SHA2-256","messageLength":[{"increment":16,"max":48,"min":0}],"revision":"1.0"}
+singles {"algorithm":"SHA2-256","messageLength":[48,0,16,32,16],"revision":"1.0"}
+hmac {"algorithm":"HMAC-SHA2-256","keyLen":[32,64],"macLen":[64],"revision":"1.0"}
+without_48 {"algorithm":"SHA2-256","revision":"1.0","messageLength":[0,16,32]}
+with_64 {"algorithm":"SHA2-256","revision":"1.0","messageLength":[0,16,32,48,64]}
+with_40 {"algorithm":"SHA2-256","revision":"1.0","messageLength":[0,16,40,48]}
+eight {"algorithm":"SHA2-256","revision":"1.0","messageLength":[8]}
+singles_of_224 {"algorithm":"SHA2-224","revision":"1.0","messageLength":[0,16,32,48]}
+spread_of_224 {"algorithm":"SHA2-224","revision":"1.0","messageLength":[{"min":0,"max":48,"increment":16}]}
+wider {"algorithm":"SHA2-256","revision":"1.0","messageLength":[{"min":0,"max":64,"increment":16}]}
+other_key {"algorithm":"HMAC-SHA2-256","revision":"1.0","keyLen":[64],"macLen":[64]}
+other_result {"algorithm":"HMAC-SHA2-256","revision":"1.0","keyLen":[32,64],"macLen":[32,64]}
+other_both {"algorithm":"HMAC-SHA2-256","revision":"1.0","keyLen":[64],"macLen":[32,64]}
+turned_round {"algorithm":"SHA2-256","revision":"1.0","messageLength":[0,32,16]}
+key_twice {"algorithm":"HMAC-SHA2-256","revision":"1.0","keyLen":[32,64,64],"macLen":[64]}
+result_twice {"algorithm":"HMAC-SHA2-256","revision":"1.0","keyLen":[32,64],"macLen":[64,64]}
+written {"algorithm":"SHA2-256","messageLength":[{"increment":8,"max":1024,"min":0}],"revision":"1.0"}
+written_otherwise {"algorithm":"SHA2-256","revision":"1.0","messageLength":[{"min":0,"max":1024,"increment":8}]}
+written_hmac {"algorithm":"HMAC-SHA2-512/224","keyLen":[8,{"increment":64,"max":1000,"min":64}],"macLen":[32,224],"revision":"1.0"}
+"#;
+
+/// The text of a name.
+fn text_of(rt: &impl Abort, name: &str) -> &'static str {
+    for line in TEXTS.lines() {
+        let (of, text) = cut(line);
+        if of == name {
+            return text;
+        }
+    }
+    panic!(rt; "no text is named {name}")
+}
+
+/// The capability that the text of a name is.
+fn named(rt: &impl Abort, alloc: Global, name: &str) -> Capability {
+    capability(rt, alloc, text_of(rt, name))
+}
+
+/// A clone.
+fn cloned(rt: &impl Abort, capability: &Capability) -> Capability {
+    capability.clone().ok().expect(rt, "memory")
+}
+
+/// A clone of the capability that the text of a name is.
+fn clone_of(rt: &impl Abort, alloc: Global, name: &str) -> Capability {
+    cloned(rt, &named(rt, alloc, name))
+}
+
+/// The capability of a name, or behind the word `clone:` its clone.
+fn capability_of(rt: &impl Abort, alloc: Global, word: &str) -> Capability {
+    match word.strip_prefix("clone:") {
+        Some(name) => clone_of(rt, alloc, name),
+        None => named(rt, alloc, word),
+    }
+}
+
+/// How many members a domain has, the least and the greatest, the member at a place, and whether the place's number is
+/// a member; and how many lengths HMAC's result may have.
+type Seen = (u64, u64, u64, Option<u64>, bool, u64);
+
+/// The domain of a message or of a key, and how many lengths HMAC's result may have.
+fn domain_of(capability: &Capability) -> (&Domain, u64) {
+    match capability.domains() {
+        Domains::Message(message) => (message, 0),
+        Domains::KeyAndMac { key, mac } => (key, mac.count()),
+    }
+}
+
+/// The member at a place, if there is one.
+fn member_at(domain: &Domain, place: u64) -> Option<u64> {
+    if place < domain.count() {
         Some(domain.member(place))
     } else {
         None
-    };
+    }
+}
+
+/// What is seen of a capability at a place.
+fn seen_of(capability: &Capability, place: u64) -> Seen {
+    let (domain, macs) = domain_of(capability);
     (
-        count,
+        domain.count(),
         domain.least(),
         domain.greatest(),
-        member,
+        member_at(domain, place),
         domain.contains(place),
+        macs,
     )
 }
 
-fn seen(alloc: Global, text: &str, place: u64) -> Result<Seen, CapFault> {
-    let capability = Capability::from_text(alloc, text)?;
-    Ok(seen_of(&capability, place))
+/// That this is seen of a text's capability at a place.
+fn is_seen(rt: &impl Abort, alloc: Global, text: &str, place: u64, wanted: Seen) {
+    let found = seen_of(&capability(rt, alloc, text), place);
+    is_so(rt, found == wanted, text);
 }
 
-const OVERLAPPING: &str =
-    r#"{"algorithm":"SHA2-256","revision":"1.0","messageLength":[{"min":0,"max":48,"increment":16},{"min":0,"max":48,"increment":24}]}"#;
-
-const TWICE_THE_SAME: &str = r#"{"algorithm":"SHA2-256","revision":"1.0","messageLength":[8,8]}"#;
-
 const MEMBERS: [(&str, u64, Seen); 8] = [
-    (OVERLAPPING, 0, (5, 0, 48, Some(0), true)),
-    (OVERLAPPING, 1, (5, 0, 48, Some(16), false)),
-    (OVERLAPPING, 2, (5, 0, 48, Some(24), false)),
-    (OVERLAPPING, 3, (5, 0, 48, Some(32), false)),
-    (OVERLAPPING, 4, (5, 0, 48, Some(48), false)),
-    (OVERLAPPING, 8, (5, 0, 48, None, false)),
-    (OVERLAPPING, 24, (5, 0, 48, None, true)),
-    (TWICE_THE_SAME, 0, (1, 8, 8, Some(8), false)),
+    ("overlapping", 0, (5, 0, 48, Some(0), true, 0)),
+    ("overlapping", 1, (5, 0, 48, Some(16), false, 0)),
+    ("overlapping", 2, (5, 0, 48, Some(24), false, 0)),
+    ("overlapping", 3, (5, 0, 48, Some(32), false, 0)),
+    ("overlapping", 4, (5, 0, 48, Some(48), false, 0)),
+    ("overlapping", 8, (5, 0, 48, None, false, 0)),
+    ("overlapping", 24, (5, 0, 48, None, true, 0)),
+    ("twice_the_same", 0, (1, 8, 8, Some(8), false, 0)),
 ];
 
 #[test]
 fn a_domain_has_each_member_once(rt: HostRuntime) {
-    for (text, place, wanted) in MEMBERS.iter() {
-        assert!(rt;
-            seen(rt.alloc(), text, *place) == Ok(*wanted),
-            "at {place} of {text}"
-        );
+    for (name, place, wanted) in &MEMBERS {
+        is_seen(&rt, rt.alloc(), text_of(&rt, name), *place, *wanted);
     }
 }
-
-const UNMET_ENDS: [(&str, Seen); 2] = [
-    (
-        r#"{"algorithm":"SHA2-256","revision":"1.0","messageLength":[{"min":0,"max":1020,"increment":8}]}"#,
-        (128, 0, 1016, Some(0), true),
-    ),
-    (
-        r#"{"algorithm":"SHA2-256","revision":"1.0","messageLength":[{"min":16,"max":18446744073709551615,"increment":18446744073709551608}]}"#,
-        (1, 16, 16, Some(16), false),
-    ),
-];
 
 #[test]
 fn the_end_of_a_range_need_not_be_met(rt: HostRuntime) {
-    for (text, wanted) in UNMET_ENDS.iter() {
-        assert!(rt; seen(rt.alloc(), text, 0) == Ok(*wanted), "{text}");
-    }
+    let many = (128, 0, 1016, Some(0), true, 0);
+    is_seen(&rt, rt.alloc(), text_of(&rt, "end_unmet"), 0, many);
+    let one = (1, 16, 16, Some(16), false, 0);
+    is_seen(&rt, rt.alloc(), text_of(&rt, "one_of_a_range"), 0, one);
 }
 
-// An item so many times, with commas between, and what stands around them.
-fn list_text(
-    alloc: Global,
-    (front, item, back): (&str, &str, &str),
-    count: u64,
-) -> Result<String, AllocError> {
-    let mut text = String::from_str(alloc, front)?;
-    text.push_str(item)?;
+/// Adds to a text.
+fn push(rt: &impl Abort, text: &mut String, more: &str) {
+    text.push_str(more).ok().expect(rt, "memory");
+}
+
+/// A text with an item so many times at its end, with commas between.
+fn list_text(rt: &impl Abort, alloc: Global, parts: (&str, &str), count: u64) -> String {
+    let (front, item) = parts;
+    let mut text = String::new(alloc);
+    push(rt, &mut text, front);
+    push(rt, &mut text, item);
     for _ in 1..count {
-        text.push_str(",")?;
-        text.push_str(item)?;
+        push(rt, &mut text, ",");
+        push(rt, &mut text, item);
     }
-    text.push_str(back)?;
-    Ok(text)
+    push(rt, &mut text, "]}");
+    text
 }
 
-const WIDEST_MESSAGE: &str =
-    r#"{"algorithm":"SHA2-256","revision":"1.0","messageLength":[{"min":0,"max":65536,"increment":8}]}"#;
-
-const WIDEST_KEY: (&str, &str, &str) = (
+const WIDEST_KEY: (&str, &str) = (
     r#"{"algorithm":"HMAC-SHA2-512","revision":"1.0","macLen":[32],"keyLen":["#,
     r#"{"min":8,"max":524288,"increment":8}"#,
-    "]}",
 );
 
-// How many lengths HMAC's result may have.
-fn mac_count(alloc: Global, text: &str) -> Result<u64, CapFault> {
-    let capability = Capability::from_text(alloc, text)?;
-    match capability.domains() {
-        Domains::Message(_) => Ok(0),
-        Domains::KeyAndMac { mac, .. } => Ok(mac.count()),
+#[test]
+fn the_widest_domains_are_counted(rt: HostRuntime) {
+    let message = (8193, 0, 65536, Some(65536), true, 0);
+    is_seen(&rt, rt.alloc(), text_of(&rt, "widest"), 8192, message);
+    let key = (65536, 8, 524288, Some(524288), false, 1);
+    let text = list_text(&rt, rt.alloc(), WIDEST_KEY, 32);
+    is_seen(&rt, rt.alloc(), text.as_str(), 65535, key);
+}
+
+/// Whether two capabilities are the same, whether they are equal, or whether their domains are.
+fn likeness(capability: &Capability, other: &Capability) -> &'static str {
+    let are_equal = capability == other;
+    let have_equal_domains = capability.domains() == other.domains();
+    match (are_equal, have_equal_domains, capability.is_same(other)) {
+        (true, true, true) => "is_same",
+        (true, true, false) => "is_equal",
+        (false, true, false) => "has_equal_domains",
+        (false, false, false) => "is_unlike",
+        _ => "is_at_odds",
     }
 }
 
-#[test]
-fn the_widest_domains_are_counted(rt: HostRuntime) -> Result<(), Fail> {
-    let alloc = rt.alloc();
-    let message = (8193, 0, 65536, Some(65536), true);
-    assert!(rt; seen(alloc, WIDEST_MESSAGE, 8192) == Ok(message));
-
-    let text = list_text(alloc, WIDEST_KEY, 32)?;
-    let key = (65536, 8, 524288, Some(524288), false);
-    assert!(rt; seen(alloc, text.as_str(), 65535) == Ok(key));
-    assert!(rt; mac_count(alloc, text.as_str()) == Ok(1));
-    Ok(())
+/// How a capability is like that of a word.
+fn likeness_to(
+    rt: &impl Abort,
+    alloc: Global,
+    capability: &Capability,
+    other: &str,
+) -> &'static str {
+    likeness(capability, &capability_of(rt, alloc, other))
 }
 
-const SPREAD: &str =
-    r#"{"algorithm":"SHA2-256","messageLength":[{"increment":16,"max":48,"min":0}],"revision":"1.0"}"#;
-
-const SINGLES: &str =
-    r#"{"algorithm":"SHA2-256","messageLength":[48,0,16,32,16],"revision":"1.0"}"#;
-
-const HMAC: &str =
-    r#"{"algorithm":"HMAC-SHA2-256","keyLen":[32,64],"macLen":[64],"revision":"1.0"}"#;
-
-// Whether two capabilities are equal, whether their domains are equal, and whether they are the same.
-type Likeness = (bool, bool, bool);
-
-const SAME: Likeness = (true, true, true);
-
-const EQUAL: Likeness = (true, true, false);
-
-const EQUAL_DOMAINS: Likeness = (false, true, false);
-
-const UNLIKE: Likeness = (false, false, false);
-
-fn likeness(capability: &Capability, other: &Capability) -> Likeness {
-    let domains_are_equal = capability.domains() == other.domains();
-    (
-        capability == other,
-        domains_are_equal,
-        capability.is_same(other),
-    )
+/// The same of its own clone.
+fn likeness_to_clone(rt: &impl Abort, capability: &Capability) -> &'static str {
+    likeness(capability, &cloned(rt, capability))
 }
 
-fn likeness_to(capability: &Capability, alloc: Global, text: &str) -> Result<Likeness, CapFault> {
-    let other = Capability::from_text(alloc, text)?;
-    Ok(likeness(capability, &other))
+/// Whether a capability is written as the text of a name.
+fn is_written(rt: &impl Abort, alloc: Global, capability: &Capability, name: &str) -> bool {
+    let text = capability.to_text(alloc).ok().expect(rt, "memory");
+    text.as_str() == text_of(rt, name)
 }
 
-// How the capabilities of two texts are alike.
-fn compared(alloc: Global, text: &str, other: &str) -> Result<Likeness, CapFault> {
-    let capability = Capability::from_text(alloc, text)?;
-    likeness_to(&capability, alloc, other)
+/// Whether a capability is what a word, and another behind it, say of it.
+fn is_what(rt: &impl Abort, alloc: Global, capability: &Capability, is: &str, what: &str) -> bool {
+    match is {
+        "is_written_as" => is_written(rt, alloc, capability, what),
+        "is_not_written_as" => !is_written(rt, alloc, capability, what),
+        "is_of" => capability.algorithm().name() == what,
+        "is_cloned_as" => likeness_to_clone(rt, capability) == what,
+        _ => likeness_to(rt, alloc, capability, what) == is,
+    }
 }
+
+/// Whether what a line says is so.
+fn is_said(rt: &impl Abort, alloc: Global, line: &str) -> bool {
+    let (word, rest) = cut(line);
+    let (is, what) = cut(rest);
+    is_what(rt, alloc, &capability_of(rt, alloc, word), is, what)
+}
+
+/// That what each line says is so.
+fn are_said(rt: &impl Abort, alloc: Global, lines: &str) {
+    for line in lines.lines() {
+        is_so(rt, is_said(rt, alloc, line), line);
+    }
+}
+
+const BY_MEMBERS: &str = "\
+spread is_equal singles
+singles is_equal spread
+spread is_unlike without_48
+without_48 is_unlike spread
+spread is_unlike with_64
+with_64 is_unlike spread
+spread is_unlike with_40
+with_40 is_unlike spread
+spread is_unlike eight
+eight is_unlike spread
+";
 
 #[test]
 fn capabilities_are_compared_by_their_members(rt: HostRuntime) {
-    let alloc = rt.alloc();
-    assert!(rt; compared(alloc, SPREAD, SINGLES) == Ok(EQUAL));
-    assert!(rt; compared(alloc, SINGLES, SPREAD) == Ok(EQUAL));
+    are_said(&rt, rt.alloc(), BY_MEMBERS);
 }
 
-const OTHER_MEMBERS: [&str; 4] = [
-    r#"{"algorithm":"SHA2-256","revision":"1.0","messageLength":[0,16,32]}"#,
-    r#"{"algorithm":"SHA2-256","revision":"1.0","messageLength":[0,16,32,48,64]}"#,
-    r#"{"algorithm":"SHA2-256","revision":"1.0","messageLength":[0,16,40,48]}"#,
-    r#"{"algorithm":"SHA2-256","revision":"1.0","messageLength":[8]}"#,
-];
+const BY_ALGORITHMS: &str = "\
+singles_of_224 has_equal_domains spread
+spread has_equal_domains spread_of_224
+spread is_unlike wider
+spread is_unlike hmac
+hmac is_unlike spread
+";
 
 #[test]
-fn other_members_are_another_capability(rt: HostRuntime) {
-    for other in OTHER_MEMBERS.iter() {
-        assert!(rt;
-            compared(rt.alloc(), SPREAD, other) == Ok(UNLIKE),
-            "{other}"
-        );
-        assert!(rt;
-            compared(rt.alloc(), other, SPREAD) == Ok(UNLIKE),
-            "{other}"
-        );
-    }
+fn another_algorithm_or_domain_is_another_capability(rt: HostRuntime) {
+    are_said(&rt, rt.alloc(), BY_ALGORITHMS);
 }
 
-#[test]
-fn another_algorithm_is_another_capability(rt: HostRuntime) {
-    let text = r#"{"algorithm":"SHA2-224","revision":"1.0","messageLength":[0,16,32,48]}"#;
-    assert!(rt; compared(rt.alloc(), text, SPREAD) == Ok(EQUAL_DOMAINS));
-}
-
-const OTHER_KEY: &str =
-    r#"{"algorithm":"HMAC-SHA2-256","revision":"1.0","keyLen":[64],"macLen":[64]}"#;
-
-const OTHER_RESULT: &str =
-    r#"{"algorithm":"HMAC-SHA2-256","revision":"1.0","keyLen":[32,64],"macLen":[32,64]}"#;
-
-const OTHER_BOTH: &str =
-    r#"{"algorithm":"HMAC-SHA2-256","revision":"1.0","keyLen":[64],"macLen":[32,64]}"#;
+const OF_HMAC: &str = "\
+other_key is_unlike hmac
+other_result is_unlike hmac
+other_both is_unlike hmac
+hmac is_unlike other_key
+hmac is_unlike other_result
+hmac is_unlike other_both
+";
 
 #[test]
 fn capabilities_of_hmac_are_compared_by_both_domains(rt: HostRuntime) {
-    for other in [OTHER_KEY, OTHER_RESULT, OTHER_BOTH].iter() {
-        assert!(rt; compared(rt.alloc(), other, HMAC) == Ok(UNLIKE), "{other}");
-    }
+    are_said(&rt, rt.alloc(), OF_HMAC);
 }
+
+/// The same items, and then pairs whose first items are the same, and whose members are.
+const BY_ITEMS: &str = "\
+spread is_same spread
+singles is_same singles
+hmac is_same hmac
+without_48 is_equal turned_round
+hmac is_equal key_twice
+hmac is_equal result_twice
+clone:without_48 is_equal clone:turned_round
+clone:hmac is_equal clone:key_twice
+clone:hmac is_equal clone:result_twice
+";
 
 #[test]
-fn a_capability_of_hmac_is_none_of_its_hash_function(rt: HostRuntime) {
-    assert!(rt; compared(rt.alloc(), HMAC, SPREAD) == Ok(UNLIKE));
+fn only_the_same_items_give_the_same_capability(rt: HostRuntime) {
+    are_said(&rt, rt.alloc(), BY_ITEMS);
 }
+
+const CLONES: &str = "\
+spread is_cloned_as is_same
+singles is_cloned_as is_same
+hmac is_cloned_as is_same
+clone:spread is_equal clone:singles
+clone:spread is_written_as spread
+clone:singles is_written_as singles
+clone:written_hmac is_written_as written_hmac
+clone:singles is_not_written_as spread
+";
 
 #[test]
-fn the_same_items_give_the_same_capability(rt: HostRuntime) {
-    for text in [SPREAD, SINGLES, HMAC].iter() {
-        assert!(rt; compared(rt.alloc(), text, text) == Ok(SAME), "{text}");
-    }
+fn a_clone_is_the_same_capability_and_keeps_its_items(rt: HostRuntime) {
+    are_said(&rt, rt.alloc(), CLONES);
 }
 
-const NOT_THE_SAME: [(&str, &str, Likeness); 6] = [
-    (HMAC, OTHER_KEY, UNLIKE),
-    (HMAC, OTHER_RESULT, UNLIKE),
-    (HMAC, OTHER_BOTH, UNLIKE),
-    (
-        SPREAD,
-        r#"{"algorithm":"SHA2-224","revision":"1.0","messageLength":[{"min":0,"max":48,"increment":16}]}"#,
-        EQUAL_DOMAINS,
-    ),
-    (
-        SPREAD,
-        r#"{"algorithm":"SHA2-256","revision":"1.0","messageLength":[{"min":0,"max":64,"increment":16}]}"#,
-        UNLIKE,
-    ),
-    (SPREAD, HMAC, UNLIKE),
-];
-
-#[test]
-fn another_algorithm_or_domain_is_not_the_same(rt: HostRuntime) {
-    for (text, other, wanted) in NOT_THE_SAME.iter() {
-        assert!(rt;
-            compared(rt.alloc(), text, other) == Ok(*wanted),
-            "{text} {other}"
-        );
-    }
-}
-
-// Pairs whose first items are the same, and whose members are.
-const OTHER_ITEMS: [(&str, &str); 3] = [
-    (
-        r#"{"algorithm":"SHA2-256","revision":"1.0","messageLength":[0,16,32]}"#,
-        r#"{"algorithm":"SHA2-256","revision":"1.0","messageLength":[0,32,16]}"#,
-    ),
-    (
-        HMAC,
-        r#"{"algorithm":"HMAC-SHA2-256","revision":"1.0","keyLen":[32,64,64],"macLen":[64]}"#,
-    ),
-    (
-        HMAC,
-        r#"{"algorithm":"HMAC-SHA2-256","revision":"1.0","keyLen":[32,64],"macLen":[64,64]}"#,
-    ),
-];
-
-#[test]
-fn other_items_of_the_same_members_are_equal_and_not_the_same(rt: HostRuntime) {
-    for (text, other) in OTHER_ITEMS.iter() {
-        assert!(rt;
-            compared(rt.alloc(), text, other) == Ok(EQUAL),
-            "{text} {other}"
-        );
-        assert!(rt;
-            clones_compared(rt.alloc(), text, other) == Ok(EQUAL),
-            "{text} {other}"
-        );
-    }
-}
-
-fn likeness_to_clone(capability: &Capability) -> Result<Likeness, AllocError> {
-    let copied = capability.clone()?;
-    Ok(likeness(capability, &copied))
-}
-
-// How a text's capability and its clone are alike.
-fn compared_to_clone(alloc: Global, text: &str) -> Result<Likeness, CapFault> {
-    let capability = Capability::from_text(alloc, text)?;
-    Ok(likeness_to_clone(&capability)?)
-}
-
-fn clone_of(alloc: Global, text: &str) -> Result<Capability, CapFault> {
-    let capability = Capability::from_text(alloc, text)?;
-    Ok(capability.clone()?)
-}
-
-// How the clones of two texts' capabilities are alike.
-fn clones_compared(alloc: Global, text: &str, other: &str) -> Result<Likeness, CapFault> {
-    let copied = clone_of(alloc, text)?;
-    let other = clone_of(alloc, other)?;
-    Ok(likeness(&copied, &other))
-}
-
-#[test]
-fn a_clone_is_the_same_capability(rt: HostRuntime) {
-    for text in [SPREAD, SINGLES, HMAC].iter() {
-        assert!(rt; compared_to_clone(rt.alloc(), text) == Ok(SAME), "{text}");
-    }
-    assert!(rt; clones_compared(rt.alloc(), SPREAD, SINGLES) == Ok(EQUAL));
-}
-
-fn is_text_of(capability: &Capability, alloc: Global, wanted: &str) -> Result<bool, AllocError> {
-    let text = capability.to_text(alloc)?;
-    Ok(text.as_str() == wanted)
-}
-
-// Whether the clone of a text's capability is written as this text.
-fn is_clone_written(alloc: Global, text: &str, wanted: &str) -> Result<bool, CapFault> {
-    let copied = clone_of(alloc, text)?;
-    Ok(is_text_of(&copied, alloc, wanted)?)
-}
-
-#[test]
-fn a_clone_keeps_the_items_as_they_were_given(rt: HostRuntime) {
-    for text in [SPREAD, SINGLES, WRITTEN_HMAC].iter() {
-        assert!(rt;
-            is_clone_written(rt.alloc(), text, text) == Ok(true),
-            "{text}"
-        );
-    }
-    assert!(rt; is_clone_written(rt.alloc(), SINGLES, SPREAD) == Ok(false));
-}
-
-const WRITTEN: &str =
-    r#"{"algorithm":"SHA2-256","messageLength":[{"increment":8,"max":1024,"min":0}],"revision":"1.0"}"#;
-
-const WRITTEN_HMAC: &str =
-    r#"{"algorithm":"HMAC-SHA2-512/224","keyLen":[8,{"increment":64,"max":1000,"min":64}],"macLen":[32,224],"revision":"1.0"}"#;
-
-// The algorithm of a text's capability, and whether the capability is written as this text.
-fn written(alloc: Global, text: &str, wanted: &str) -> Result<(Algorithm, bool), CapFault> {
-    let capability = Capability::from_text(alloc, text)?;
-    let is_wanted = is_text_of(&capability, alloc, wanted)?;
-    Ok((capability.algorithm(), is_wanted))
-}
-
-const READ_BACK: [(&str, &str, Algorithm); 4] = [
-    (WRITTEN, WRITTEN, Algorithm::Sha2_256),
-    (WRITTEN_HMAC, WRITTEN_HMAC, Algorithm::HmacSha2_512_224),
-    (
-        r#"{"algorithm":"SHA2-256","revision":"1.0","messageLength":[{"min":0,"max":1024,"increment":8}]}"#,
-        WRITTEN,
-        Algorithm::Sha2_256,
-    ),
-    (SINGLES, SINGLES, Algorithm::Sha2_256),
-];
+const READ_BACK: &str = "\
+written is_written_as written
+written is_of SHA2-256
+written_hmac is_written_as written_hmac
+written_hmac is_of HMAC-SHA2-512/224
+written_otherwise is_written_as written
+written_otherwise is_of SHA2-256
+singles is_written_as singles
+singles is_of SHA2-256
+";
 
 #[test]
 fn a_capability_is_written_and_read_back(rt: HostRuntime) {
-    for (text, wanted, algorithm) in READ_BACK.iter() {
-        let found = written(rt.alloc(), text, wanted);
-        assert!(rt; found == Ok((*algorithm, true)), "{text}");
-    }
-    for text in ["", "[", r#"{"algorithm":"SHA2-256""#, "7"].iter() {
-        assert!(rt;
-            fault_of(rt.alloc(), text) == Some(CapFault::Field),
-            "{text}"
-        );
+    are_said(&rt, rt.alloc(), READ_BACK);
+}
+
+/// The word for a fault.
+fn word_of(fault: Option<CapFault>) -> &'static str {
+    match fault {
+        Some(CapFault::Field) => "Field",
+        Some(CapFault::NotByteOriented) => "NotByteOriented",
+        Some(CapFault::OutOfRange) => "OutOfRange",
+        Some(CapFault::Unsupported) => "Unsupported",
+        Some(CapFault::Memory) => "Memory",
+        None => "none",
     }
 }
 
-// Why a text is no capability.
-fn fault_of(alloc: Global, text: &str) -> Option<CapFault> {
-    Capability::from_text(alloc, text).err()
+/// Why a text is no capability.
+fn fault_of(alloc: Global, text: &str) -> &'static str {
+    word_of(Capability::from_text(alloc, text).err())
 }
 
 fn registration(alloc: Global, text: &str) -> Result<Registration, CapFault> {
@@ -450,235 +437,155 @@ fn registration(alloc: Global, text: &str) -> Result<Registration, CapFault> {
     }
 }
 
-// Why a text is no registration.
-fn registration_fault(alloc: Global, text: &str) -> Option<CapFault> {
-    registration(alloc, text).err()
+/// Why a text is no registration.
+fn registration_fault(alloc: Global, text: &str) -> &'static str {
+    word_of(registration(alloc, text).err())
 }
 
-// Whether a registration is of samples, how many capabilities it has, how many are taken out of it, and the
-// algorithms of the first two.
+/// Whether a registration is of samples, how many capabilities it has, how many are taken out of it, and the algorithms
+/// of the first two.
 type Registered = (bool, usize, usize, Option<Algorithm>, Option<Algorithm>);
 
+/// The algorithm of the capability at a place.
 fn algorithm_at(capabilities: &[Capability], place: usize) -> Option<Algorithm> {
-    Some(capabilities.get(place)?.algorithm())
+    match capabilities.get(place) {
+        Some(capability) => Some(capability.algorithm()),
+        None => None,
+    }
 }
 
-fn registered(alloc: Global, text: &str) -> Result<Registered, CapFault> {
-    let read = registration(alloc, text)?;
+fn registered(read: Registration) -> Registered {
     let sample = read.sample();
     let count = read.capabilities().len();
     let taken = read.into_capabilities();
-    let (first, second) = (algorithm_at(&taken, 0), algorithm_at(&taken, 1));
-    Ok((sample, count, taken.len(), first, second))
+    (
+        sample,
+        count,
+        taken.len(),
+        algorithm_at(&taken, 0),
+        algorithm_at(&taken, 1),
+    )
 }
 
-const REGISTRATIONS: [(&str, Registered); 2] = [
-    (
-        "{\"isSample\":true,\"algorithms\":[{\"algorithm\":\"SHA2-256\",\"revision\":\"1.0\",\
-         \"performLargeDataTest\":[],\"prereqVals\":7,\"messageLength\":[{\"min\":0,\"max\":1024,\"increment\":8}]},\
-         {\"algorithm\":\"HMAC-SHA2-224\",\"revision\":\"1.0\",\"performLargeDataTest\":[1],\"keyLen\":[524288],\"macLen\":[32,224]}]}",
-        (
-            true,
-            2,
-            2,
-            Some(Algorithm::Sha2_256),
-            Some(Algorithm::HmacSha2_224),
-        ),
-    ),
-    (
-        "{\"encryptAtRest\":false,\"algorithms\":[{\"algorithm\":\"SHA2-224\",\"revision\":\"1.0\",\"messageLength\":[65536]}]}",
-        (false, 1, 1, Some(Algorithm::Sha2_224), None),
-    ),
-];
+/// That a text is read as this registration.
+fn is_registered(rt: &impl Abort, alloc: Global, text: &str, wanted: Registered) {
+    match registration(alloc, text) {
+        Ok(read) => is_so(rt, registered(read) == wanted, text),
+        Err(_) => panic!(rt; "no registration: {text}"),
+    }
+}
+
+const TWO: &str =
+    r#"{"isSample":true,"algorithms":[{"algorithm":"SHA2-256","revision":"1.0","performLargeDataTest":[],"prereqVals":7,"messageLength":[{"min":0,"max":1024,"increment":8}]},{"algorithm":"HMAC-SHA2-224","revision":"1.0","performLargeDataTest":[1],"keyLen":[524288],"macLen":[32,224]}]}"#;
+
+const ONE: &str =
+    r#"{"encryptAtRest":false,"algorithms":[{"algorithm":"SHA2-224","revision":"1.0","messageLength":[65536]}]}"#;
 
 #[test]
 fn a_registration_is_read(rt: HostRuntime) {
-    for (text, wanted) in REGISTRATIONS.iter() {
-        assert!(rt; registered(rt.alloc(), text) == Ok(*wanted), "{text}");
+    let (first, second) = (Some(Algorithm::Sha2_256), Some(Algorithm::HmacSha2_224));
+    is_registered(&rt, rt.alloc(), TWO, (true, 2, 2, first, second));
+    let only = Some(Algorithm::Sha2_224);
+    is_registered(&rt, rt.alloc(), ONE, (false, 1, 1, only, None));
+}
+
+/// That each line's text has its fault, as a registration or as a capability.
+fn have_faults(rt: &impl Abort, alloc: Global, lines: &str, are_registrations: bool) {
+    for line in lines.lines() {
+        is_so(rt, has_fault(rt, alloc, line, are_registrations), line);
     }
 }
 
-// What is wrong, in what text, and the fault that is told.
-type Faulty = (&'static str, &'static str, CapFault);
+/// Whether a line's text has its fault.
+fn has_fault(rt: &impl Abort, alloc: Global, line: &str, is_registration: bool) -> bool {
+    let (told, text) = line.split_once(" = ").expect(rt, "a fault and a text");
+    let (fault, _) = cut(told);
+    if is_registration {
+        registration_fault(alloc, text) == fault
+    } else {
+        fault_of(alloc, text) == fault
+    }
+}
 
-const FAULTY_REGISTRATIONS: [Faulty; 7] = [
-    ("no object", "[]", CapFault::Field),
-    ("no capabilities", r#"{"algorithms":[]}"#, CapFault::Field),
-    (
-        "a sample that is no truth value",
-        r#"{"algorithms":[{}],"isSample":1,"encryptAtRest":true}"#,
-        CapFault::Field,
-    ),
-    (
-        "an encryption that is no truth value",
-        r#"{"algorithms":[{"algorithm":"SHA-1","revision":"1.0"}],"encryptAtRest":null}"#,
-        CapFault::Field,
-    ),
-    (
-        "encryption at rest before a capability",
-        r#"{"algorithms":[{}],"encryptAtRest":true}"#,
-        CapFault::Unsupported,
-    ),
-    (
-        "the first capability before the second",
-        r#"{"algorithms":[{"algorithm":"SHA2-256","revision":"1.0","messageLength":[65544]},{}]}"#,
-        CapFault::OutOfRange,
-    ),
-    (
-        "the second capability",
-        r#"{"algorithms":[{"algorithm":"SHA2-256","revision":"1.0","messageLength":[8]},{"algorithm":"SHA-1","revision":"1.0"}]}"#,
-        CapFault::Unsupported,
-    ),
-];
+/// Faults that are told, each of what, and in what text.
+const FAULTY_REGISTRATIONS: &str = r#"Field no object = []
+Field no capabilities = {"algorithms":[]}
+Field a sample that is no truth value = {"algorithms":[{}],"isSample":1,"encryptAtRest":true}
+Field an encryption that is no truth value = {"algorithms":[{"algorithm":"SHA-1","revision":"1.0"}],"encryptAtRest":null}
+Unsupported encryption at rest before a capability = {"algorithms":[{}],"encryptAtRest":true}
+OutOfRange the first capability before the second = {"algorithms":[{"algorithm":"SHA2-256","revision":"1.0","messageLength":[65544]},{}]}
+Unsupported the second capability = {"algorithms":[{"algorithm":"SHA2-256","revision":"1.0","messageLength":[8]},{"algorithm":"SHA-1","revision":"1.0"}]}
+"#;
 
 #[test]
 fn the_first_fault_of_a_registration_is_told(rt: HostRuntime) {
-    for (what, text, fault) in FAULTY_REGISTRATIONS.iter() {
-        assert!(rt;
-            registration_fault(rt.alloc(), text) == Some(*fault),
-            "at {what}"
-        );
-    }
+    have_faults(&rt, rt.alloc(), FAULTY_REGISTRATIONS, true);
 }
 
-const FAULTY_CAPABILITIES: [Faulty; 21] = [
-    ("a number", "7", CapFault::Field),
-    (
-        "no revision, before the algorithm",
-        r#"{"algorithm":"SHA-1"}"#,
-        CapFault::Field,
-    ),
-    (
-        "another algorithm, before its options",
-        r#"{"algorithm":"SHA-1","revision":"1.0","performLargeDataTest":7}"#,
-        CapFault::Unsupported,
-    ),
-    (
-        "another revision, before the domain",
-        r#"{"algorithm":"SHA2-256","revision":"2.0"}"#,
-        CapFault::Unsupported,
-    ),
-    (
-        "large messages that are no array, before the domain",
-        r#"{"algorithm":"SHA2-256","revision":"1.0","performLargeDataTest":7,"messageLength":[7]}"#,
-        CapFault::Field,
-    ),
-    (
-        "large messages, before the domain",
-        r#"{"algorithm":"SHA2-256","revision":"1.0","performLargeDataTest":[1]}"#,
-        CapFault::Unsupported,
-    ),
-    (
-        "the whole array's form, before bytes",
-        r#"{"algorithm":"SHA2-256","revision":"1.0","messageLength":[7,-8]}"#,
-        CapFault::Field,
-    ),
-    (
-        "an empty domain",
-        r#"{"algorithm":"SHA2-256","revision":"1.0","messageLength":[]}"#,
-        CapFault::Field,
-    ),
-    (
-        "a range that goes down",
-        r#"{"algorithm":"SHA2-256","revision":"1.0","messageLength":[{"min":16,"max":8,"increment":8}]}"#,
-        CapFault::Field,
-    ),
-    (
-        "a range that stands still",
-        r#"{"algorithm":"SHA2-256","revision":"1.0","messageLength":[{"min":8,"max":16,"increment":0}]}"#,
-        CapFault::Field,
-    ),
-    (
-        "every number's bytes, before the limits",
-        r#"{"algorithm":"SHA2-256","revision":"1.0","messageLength":[65544,7]}"#,
-        CapFault::NotByteOriented,
-    ),
-    (
-        "steps of a bit",
-        r#"{"algorithm":"SHA2-256","revision":"1.0","messageLength":[{"min":0,"max":1024,"increment":1}]}"#,
-        CapFault::NotByteOriented,
-    ),
-    (
-        "a message too long",
-        r#"{"algorithm":"SHA2-256","revision":"1.0","messageLength":[{"min":8,"max":65544,"increment":8}]}"#,
-        CapFault::OutOfRange,
-    ),
-    (
-        "the widest range that is written",
-        r#"{"algorithm":"SHA2-256","revision":"1.0","messageLength":[{"min":0,"max":18446744073709551615,"increment":8}]}"#,
-        CapFault::OutOfRange,
-    ),
-    (
-        "an empty key, before the absence of a result",
-        r#"{"algorithm":"HMAC-SHA2-256","revision":"1.0","keyLen":[0]}"#,
-        CapFault::OutOfRange,
-    ),
-    (
-        "no length of the key, before a bad result",
-        r#"{"algorithm":"HMAC-SHA2-256","revision":"1.0","macLen":[7]}"#,
-        CapFault::Field,
-    ),
-    (
-        "a key of half bytes, before its limits",
-        r#"{"algorithm":"HMAC-SHA2-256","revision":"1.0","keyLen":[524296,12],"macLen":[7]}"#,
-        CapFault::NotByteOriented,
-    ),
-    (
-        "a result too short",
-        r#"{"algorithm":"HMAC-SHA2-256","revision":"1.0","keyLen":[8],"macLen":[24]}"#,
-        CapFault::OutOfRange,
-    ),
-    (
-        "no length of the result",
-        r#"{"algorithm":"HMAC-SHA2-256","revision":"1.0","keyLen":[8]}"#,
-        CapFault::Field,
-    ),
-    (
-        "a result of half bytes, before its limits",
-        r#"{"algorithm":"HMAC-SHA2-256","revision":"1.0","keyLen":[8],"macLen":[264,36]}"#,
-        CapFault::NotByteOriented,
-    ),
-    (
-        "a result longer than the digest",
-        r#"{"algorithm":"HMAC-SHA2-256","revision":"1.0","keyLen":[8],"macLen":[264]}"#,
-        CapFault::OutOfRange,
-    ),
-];
+const FAULTY_CAPABILITIES: &str = r#"Field a bracket = [
+Field half an object = {"algorithm":"SHA2-256"
+Field a number = 7
+Field no revision, before the algorithm = {"algorithm":"SHA-1"}
+Unsupported another algorithm, before its options = {"algorithm":"SHA-1","revision":"1.0","performLargeDataTest":7}
+Unsupported another revision, before the domain = {"algorithm":"SHA2-256","revision":"2.0"}
+Field large messages that are no array, before the domain = {"algorithm":"SHA2-256","revision":"1.0","performLargeDataTest":7,"messageLength":[7]}
+Unsupported large messages, before the domain = {"algorithm":"SHA2-256","revision":"1.0","performLargeDataTest":[1]}
+Field the whole array's form, before bytes = {"algorithm":"SHA2-256","revision":"1.0","messageLength":[7,-8]}
+Field an empty domain = {"algorithm":"SHA2-256","revision":"1.0","messageLength":[]}
+Field a range that goes down = {"algorithm":"SHA2-256","revision":"1.0","messageLength":[{"min":16,"max":8,"increment":8}]}
+Field a range that stands still = {"algorithm":"SHA2-256","revision":"1.0","messageLength":[{"min":8,"max":16,"increment":0}]}
+NotByteOriented every number's bytes, before the limits = {"algorithm":"SHA2-256","revision":"1.0","messageLength":[65544,7]}
+NotByteOriented steps of a bit = {"algorithm":"SHA2-256","revision":"1.0","messageLength":[{"min":0,"max":1024,"increment":1}]}
+OutOfRange a message too long = {"algorithm":"SHA2-256","revision":"1.0","messageLength":[{"min":8,"max":65544,"increment":8}]}
+OutOfRange the widest range that is written = {"algorithm":"SHA2-256","revision":"1.0","messageLength":[{"min":0,"max":18446744073709551615,"increment":8}]}
+OutOfRange an empty key, before the absence of a result = {"algorithm":"HMAC-SHA2-256","revision":"1.0","keyLen":[0]}
+Field no length of the key, before a bad result = {"algorithm":"HMAC-SHA2-256","revision":"1.0","macLen":[7]}
+NotByteOriented a key of half bytes, before its limits = {"algorithm":"HMAC-SHA2-256","revision":"1.0","keyLen":[524296,12],"macLen":[7]}
+OutOfRange a result too short = {"algorithm":"HMAC-SHA2-256","revision":"1.0","keyLen":[8],"macLen":[24]}
+Field no length of the result = {"algorithm":"HMAC-SHA2-256","revision":"1.0","keyLen":[8]}
+NotByteOriented a result of half bytes, before its limits = {"algorithm":"HMAC-SHA2-256","revision":"1.0","keyLen":[8],"macLen":[264,36]}
+OutOfRange a result longer than the digest = {"algorithm":"HMAC-SHA2-256","revision":"1.0","keyLen":[8],"macLen":[264]}
+"#;
 
 #[test]
 fn the_first_fault_of_a_capability_is_told(rt: HostRuntime) {
-    for (what, text, fault) in FAULTY_CAPABILITIES.iter() {
-        assert!(rt; fault_of(rt.alloc(), text) == Some(*fault), "at {what}");
-    }
+    have_faults(&rt, rt.alloc(), FAULTY_CAPABILITIES, false);
+    is_so(&rt, fault_of(rt.alloc(), "") == "Field", "nothing");
 }
 
-const ITEMS: (&str, &str, &str) = (
+const ITEMS: (&str, &str) = (
     r#"{"algorithm":"SHA2-256","revision":"1.0","messageLength":["#,
     "8",
-    "]}",
 );
 
-const CAPABILITIES: (&str, &str, &str) = (
+const CAPABILITIES: (&str, &str) = (
     r#"{"algorithms":["#,
     r#"{"algorithm":"SHA2-256","revision":"1.0","messageLength":[8]}"#,
-    "]}",
 );
 
-fn fault_of_items(alloc: Global, count: u64) -> Result<Option<CapFault>, AllocError> {
-    let text = list_text(alloc, ITEMS, count)?;
-    Ok(fault_of(alloc, text.as_str()))
+/// Whether a capability with so many items has this fault.
+fn have_fault(rt: &impl Abort, alloc: Global, items: u64, fault: &str) -> bool {
+    fault_of(alloc, list_text(rt, alloc, ITEMS, items).as_str()) == fault
 }
 
-fn fault_of_capabilities(alloc: Global, count: u64) -> Result<Option<CapFault>, AllocError> {
-    let text = list_text(alloc, CAPABILITIES, count)?;
-    Ok(registration_fault(alloc, text.as_str()))
+/// Whether a registration of so many capabilities does.
+fn registered_have_fault(rt: &impl Abort, alloc: Global, count: u64, fault: &str) -> bool {
+    registration_fault(alloc, list_text(rt, alloc, CAPABILITIES, count).as_str()) == fault
 }
 
 #[test]
 fn lists_end_at_their_limits(rt: HostRuntime) {
     let alloc = rt.alloc();
-    assert!(rt; fault_of_items(alloc, 32) == Ok(None));
-    assert!(rt; fault_of_items(alloc, 33) == Ok(Some(CapFault::Field)));
-    assert!(rt; fault_of_capabilities(alloc, 20) == Ok(None));
-    assert!(rt; fault_of_capabilities(alloc, 21) == Ok(Some(CapFault::Field)));
+    is_so(&rt, have_fault(&rt, alloc, 32, "none"), "32 items");
+    is_so(&rt, have_fault(&rt, alloc, 33, "Field"), "33 items");
+    is_so(
+        &rt,
+        registered_have_fault(&rt, alloc, 20, "none"),
+        "20 capabilities",
+    );
+    is_so(
+        &rt,
+        registered_have_fault(&rt, alloc, 21, "Field"),
+        "21 capabilities",
+    );
 }

@@ -1,14 +1,14 @@
 //! Bodies of answers against the prompts of vector sets. Where a body has right answers, they are the standard's, which
 //! `acvp_answers` tests against other programs.
 
-use crate::lines::{cut, fault_of};
+use crate::bodies::are_kept_as;
+use crate::lines::{cut, fault_word, is_so};
+use crate::replies::prompts_of;
 use acvp_answers::{Answers, standard};
-use acvp_gen::{CapFault, Capability, Prompts, prompts};
-use acvp_json::{
-    BodyFault, ReplyObject, answers_to_text, open_envelope, read_answers, write_reply,
-};
+use acvp_gen::Prompts;
+use acvp_json::{ReplyObject, answers_to_text, open_envelope, read_answers, write_reply};
 use serde_json::Value;
-use std::alloc::{AllocError, Global};
+use std::alloc::Global;
 use std::process::Abort;
 
 const HASH: &str =
@@ -17,83 +17,63 @@ const HASH: &str =
 const HMAC: &str =
     r#"{"algorithm":"HMAC-SHA2-256","revision":"1.0","keyLen":[8],"macLen":[32,256]}"#;
 
-/// The prompts of the first vector set of account 7's first session, for a capability's text.
-fn prompts_of(alloc: Global, capability: &str) -> Result<Prompts, CapFault> {
-    let capability = Capability::from_text(alloc, capability)?;
-    prompts(alloc, &[0; 32], 700000101, &capability).map_err(|_| CapFault::Memory)
+/// The prompts of the first vector set of account 7's first session, for a capability by its name.
+fn prompts_for(rt: &impl Abort, alloc: Global, name: &str) -> Prompts {
+    let capability = if name == "HASH" { HASH } else { HMAC };
+    prompts_of(rt, alloc, 700000101, capability)
 }
 
-/// The prompts of the vector set of a capability by its name.
-fn prompts_for(alloc: Global, capability: &str) -> Result<Prompts, CapFault> {
-    prompts_of(alloc, if capability == "HASH" { HASH } else { HMAC })
-}
-
-/// The answers that a body gives to prompts, or why it isn't read.
-fn answers_in(alloc: Global, prompts: &Prompts, body: &str) -> Result<Answers, BodyFault> {
-    let Ok(object) = Value::from_str(alloc, body) else {
-        return Err(BodyFault::BodyNotJson);
-    };
-    read_answers(alloc, &object, prompts)
-}
-
-/// Why a body isn't read for a capability; none where it is, or where there are no prompts.
-fn fault_in(alloc: Global, capability: &str, body: &str) -> Option<BodyFault> {
-    match prompts_for(alloc, capability) {
-        Ok(prompts) => answers_in(alloc, &prompts, body).err(),
-        Err(_) => None,
+/// Whether a body is read as answers to prompts that are kept as this text, or has the fault of this word.
+fn is_read_as(
+    rt: &impl Abort,
+    alloc: Global,
+    prompts: &Prompts,
+    body: &Value,
+    wanted: &str,
+) -> bool {
+    match read_answers(alloc, body, prompts) {
+        Ok(answers) => are_kept_as(rt, alloc, &answers, wanted),
+        Err(fault) => fault_word(fault) == wanted,
     }
 }
 
-/// Whether answers are kept as this text.
-fn are_kept_as(alloc: Global, answers: &Answers, text: &str) -> bool {
-    match answers_to_text(alloc, answers) {
-        Ok(kept) => kept.as_str() == text,
-        Err(_) => false,
+/// The value that a text is.
+fn value_of(rt: &impl Abort, alloc: Global, text: &str) -> Value {
+    Value::from_str(alloc, text).ok().expect(rt, "a value")
+}
+
+/// Whether a line's body is read as the line says.
+fn is_read(rt: &impl Abort, alloc: Global, prompts: &Prompts, body: &str, wanted: &str) -> bool {
+    is_read_as(rt, alloc, prompts, &value_of(rt, alloc, body), wanted)
+}
+
+/// That a line's body is read as the line says.
+fn reads(rt: &impl Abort, alloc: Global, line: &str) {
+    let (wanted, rest) = cut(line);
+    let (capability, body) = cut(rest);
+    let prompts = prompts_for(rt, alloc, capability);
+    is_so(rt, is_read(rt, alloc, &prompts, body, wanted), line);
+}
+
+/// That each line's body is.
+fn all_read(rt: &impl Abort, alloc: Global, lines: &str) {
+    for line in lines.lines() {
+        reads(rt, alloc, line);
     }
 }
 
-/// Whether a body is read as answers to prompts that are kept as this text.
-fn gives(alloc: Global, prompts: &Prompts, body: &str, text: &str) -> bool {
-    match answers_in(alloc, prompts, body) {
-        Ok(answers) => are_kept_as(alloc, &answers, text),
-        Err(_) => false,
-    }
-}
-
-/// The same of a body for a capability.
-fn is_read_as(alloc: Global, capability: &str, body: &str, text: &str) -> bool {
-    match prompts_for(alloc, capability) {
-        Ok(prompts) => gives(alloc, &prompts, body, text),
-        Err(_) => false,
-    }
-}
-
-/// Bodies for a capability, and the text that their answers are kept as.
-const READ: &str = r#"HASH {"vsId":700000101,"testGroups":[]} = []
-HASH {"algorithm":"SHA2-256","revision":"1.0","vsId":700000101,"testGroups":[{"tgId":1,"tests":[]}]} = []
-HASH {"vsId":700000101,"testGroups":[{"tgId":1,"tests":[{"tcId":3,"md":"x"},{"tcId":1,"md":"Y","mac":"z"}]}]} = [[1,["Y"]],[3,["x"]]]
-HASH {"vsId":700000101,"testGroups":[{"tgId":2,"tests":[{"tcId":25,"resultsArray":[{"md":"a"},{"md":"b","more":1}]}]},{"tgId":1,"tests":[{"tcId":24,"md":""}]}]} = [[24,[""]],[25,["a","b"]]]
-HASH {"vsId":700000101,"testGroups":[{"tgId":2,"tests":[{"tcId":25,"resultsArray":[]}]}]} = [[25,[]]]
-HMAC {"vsId":700000101,"testGroups":[{"tgId":2,"tests":[{"tcId":4,"mac":"a"}]}]} = [[4,["a"]]]
+/// Bodies for a capability, behind the text that their answers are kept as.
+const READ: &str = r#"[] HASH {"vsId":700000101,"testGroups":[]}
+[] HASH {"algorithm":"SHA2-256","revision":"1.0","vsId":700000101,"testGroups":[{"tgId":1,"tests":[]}]}
+[[1,["Y"]],[3,["x"]]] HASH {"vsId":700000101,"testGroups":[{"tgId":1,"tests":[{"tcId":3,"md":"x"},{"tcId":1,"md":"Y","mac":"z"}]}]}
+[[24,[""]],[25,["a","b"]]] HASH {"vsId":700000101,"testGroups":[{"tgId":2,"tests":[{"tcId":25,"resultsArray":[{"md":"a"},{"md":"b","more":1}]}]},{"tgId":1,"tests":[{"tcId":24,"md":""}]}]}
+[[25,[]]] HASH {"vsId":700000101,"testGroups":[{"tgId":2,"tests":[{"tcId":25,"resultsArray":[]}]}]}
+[[4,["a"]]] HMAC {"vsId":700000101,"testGroups":[{"tgId":2,"tests":[{"tcId":4,"mac":"a"}]}]}
 "#;
 
 #[test]
 fn answers_are_read_at_their_numbers(rt: HostRuntime) {
-    for line in READ.lines() {
-        let (capability, rest) = cut(line);
-        let (body, text) = rest.split_once(" = ").expect(&rt, "a body and a text");
-        assert!(rt; is_read_as(rt.alloc(), capability, body, text), "{line}");
-    }
-}
-
-/// That each line's body has its fault, for its capability.
-fn have_faults(rt: &impl Abort, alloc: Global, lines: &str) {
-    for line in lines.lines() {
-        let (fault, rest) = cut(line);
-        let (capability, body) = cut(rest);
-        let found = fault_in(alloc, capability, body);
-        assert!(rt; found == Some(fault_of(rt, fault)), "{line}");
-    }
+    all_read(&rt, rt.alloc(), READ);
 }
 
 /// Bodies of which a test fails.
@@ -116,7 +96,7 @@ BodyField HMAC {"vsId":700000101,"testGroups":[{"tgId":1,"tests":[{"tcId":1,"md"
 
 #[test]
 fn the_first_test_that_fails_is_told(rt: HostRuntime) {
-    have_faults(&rt, rt.alloc(), FAULTY);
+    all_read(&rt, rt.alloc(), FAULTY);
 }
 
 /// Bodies of another vector set, which is told only of those that have the form.
@@ -143,56 +123,51 @@ BodyField HASH []
 
 #[test]
 fn bodies_of_answers_have_a_form(rt: HostRuntime) {
-    have_faults(&rt, rt.alloc(), FORMED);
+    all_read(&rt, rt.alloc(), FORMED);
 }
 
 /// The standard's answers to prompts as a body.
-fn expected_body(
-    alloc: Global,
-    prompts: &Prompts,
-    standard: &Answers,
-) -> Result<Vec<u8>, AllocError> {
-    write_reply(alloc, &ReplyObject::Expected { prompts, standard })
+fn expected_body(rt: &impl Abort, alloc: Global, prompts: &Prompts, standard: &Answers) -> Vec<u8> {
+    let body = write_reply(alloc, &ReplyObject::Expected { prompts, standard });
+    body.ok().expect(rt, "memory")
 }
 
-/// The answers that a body in its envelope gives to prompts, or why it isn't read.
-fn answers_sent(alloc: Global, prompts: &Prompts, body: &[u8]) -> Result<Answers, BodyFault> {
-    let object = open_envelope(alloc, body)?;
-    read_answers(alloc, &object, prompts)
+/// What a body's envelope holds.
+fn object_in(rt: &impl Abort, alloc: Global, body: &[u8]) -> Value {
+    open_envelope(alloc, body).ok().expect(rt, "an envelope")
+}
+
+/// Whether a body in its envelope gives these answers to prompts.
+fn sends(rt: &impl Abort, alloc: Global, prompts: &Prompts, body: &[u8], right: &Answers) -> bool {
+    let object = object_in(rt, alloc, body);
+    match read_answers(alloc, &object, prompts) {
+        Ok(given) => are_same(rt, alloc, &given, right),
+        Err(_) => false,
+    }
 }
 
 /// Whether these are the same answers.
-fn are_same(alloc: Global, given: &Answers, right: &Answers) -> bool {
-    match answers_to_text(alloc, right) {
-        Ok(text) => given.len() == right.len() && are_kept_as(alloc, given, text.as_str()),
-        Err(_) => false,
-    }
+fn are_same(rt: &impl Abort, alloc: Global, given: &Answers, right: &Answers) -> bool {
+    let text = answers_to_text(alloc, right).ok().expect(rt, "memory");
+    given.len() == right.len() && are_kept_as(rt, alloc, given, text.as_str())
 }
 
-/// Whether a body gives the right answers.
-fn sends_back(alloc: Global, prompts: &Prompts, right: &Answers) -> bool {
-    let Ok(body) = expected_body(alloc, prompts, right) else {
-        return false;
-    };
-    match answers_sent(alloc, prompts, &body) {
-        Ok(given) => are_same(alloc, &given, right),
-        Err(_) => false,
-    }
+/// Whether right answers to prompts, sent back, are read as themselves.
+fn sends_back(rt: &impl Abort, alloc: Global, prompts: &Prompts, right: &Answers) -> bool {
+    let body = expected_body(rt, alloc, prompts, right);
+    sends(rt, alloc, prompts, body.as_slice(), right)
 }
 
-/// Whether the standard's answers to a capability's prompts, sent back, are read as themselves.
-fn are_sent_back(alloc: Global, capability: &str) -> bool {
-    let Ok(prompts) = prompts_of(alloc, capability) else {
-        return false;
-    };
-    match standard(alloc, &prompts) {
-        Ok(right) => sends_back(alloc, &prompts, &right),
-        Err(_) => false,
-    }
+/// Whether the standard's answers to prompts are.
+fn are_sent_back(rt: &impl Abort, alloc: Global, prompts: &Prompts) -> bool {
+    let right = standard(alloc, prompts).ok().expect(rt, "answers");
+    sends_back(rt, alloc, prompts, &right)
 }
 
 #[test]
 fn expected_answers_that_are_sent_back_are_the_standards(rt: HostRuntime) {
-    assert!(rt; are_sent_back(rt.alloc(), HASH));
-    assert!(rt; are_sent_back(rt.alloc(), HMAC));
+    let alloc = rt.alloc();
+    let hash = are_sent_back(&rt, alloc, &prompts_for(&rt, alloc, "HASH"));
+    let hmac = are_sent_back(&rt, alloc, &prompts_for(&rt, alloc, "HMAC"));
+    assert!(rt; hash && hmac);
 }

@@ -1,15 +1,34 @@
 //! URLs and objects, by the forms that the protocol gives them; the texts of objects are as Python's `json` writes
 //! them.
 
-use crate::bodies::nested;
-use crate::lines::{cut, kind_of, number, optional};
+use crate::bodies::{nested, text_of};
+use crate::lines::{cut, is_so, number};
 use acvp_registry::{
     Kind, Object, RegFault, body_value, digits_number, object_url, plain_number, read_object,
     url_number, with_url,
 };
 use serde_json::{Value, put};
-use std::alloc::{AllocError, Global};
+use std::alloc::Global;
 use std::process::Abort;
+
+/// A kind by its first letter.
+fn kind_of(rt: &impl Abort, name: &str) -> Kind {
+    match name.as_bytes().first() {
+        Some(b'V') => Kind::Vendor,
+        Some(b'M') => Kind::Module,
+        Some(b'E') => Kind::Environment,
+        Some(b'C') => Kind::Certification,
+        _ => panic!(rt; "no kind"),
+    }
+}
+
+/// A number, or nothing where a dash stands.
+fn optional(rt: &impl Abort, word: &str) -> Option<u64> {
+    if word == "-" {
+        return None;
+    }
+    Some(number(rt, word))
+}
 
 /// URLs for a kind, and the numbers that they name, or a dash for none.
 const URLS: &str = r#"Vendor /acvp/v1/vendors/7000001 7000001
@@ -33,7 +52,7 @@ fn urls_name_their_numbers(rt: HostRuntime) {
         let (kind, rest) = cut(line);
         let (text, wanted) = cut(rest);
         let found = url_number(kind_of(&rt, kind), text);
-        assert!(rt; found == optional(&rt, wanted), "{line}");
+        is_so(&rt, found == optional(&rt, wanted), line);
     }
 }
 
@@ -44,24 +63,27 @@ fn leading_zeros_are_for_codes_alone(rt: HostRuntime) {
     assert!(rt; plain_number(b"0") == Some(0));
 }
 
-/// Why the value of a text isn't kept; Memory also where it is no JSON.
-fn fault_in(alloc: Global, kind: Kind, text: &str) -> Option<RegFault> {
-    match Value::from_str(alloc, text) {
-        Ok(value) => read_object(alloc, kind, &value).err(),
-        Err(_) => Some(RegFault::Memory),
+/// The value that a text is.
+fn value_of(rt: &impl Abort, alloc: Global, text: &str) -> Value {
+    body_value(alloc, text.as_bytes())
+        .ok()
+        .expect(rt, "a value")
+}
+
+/// The word for why a value isn't kept, or for that it is.
+fn word_of(fault: Option<RegFault>) -> &'static str {
+    match fault {
+        None => "none",
+        Some(RegFault::Field) => "Field",
+        Some(RegFault::NoReference) => "NoReference",
+        Some(_) => "another fault",
     }
 }
 
-/// A fault by its name, or none.
-fn fault_named(rt: &impl Abort, name: &str) -> Option<RegFault> {
-    match name {
-        "none" => None,
-        "Field" => Some(RegFault::Field),
-        _ => {
-            assert_eq!(rt; name, "NoReference");
-            Some(RegFault::NoReference)
-        }
-    }
+/// Why the value of a text isn't kept.
+fn fault_in(rt: &impl Abort, alloc: Global, kind: Kind, text: &str) -> &'static str {
+    let value = Value::from_str(alloc, text).ok().expect(rt, "a value");
+    word_of(read_object(alloc, kind, &value).err())
 }
 
 /// Texts of a kind, each with its fault or none.
@@ -89,120 +111,104 @@ fn objects_are_judged(rt: HostRuntime) {
     for line in JUDGED.lines() {
         let (fault, rest) = cut(line);
         let (kind, text) = cut(rest);
-        let found = fault_in(rt.alloc(), kind_of(&rt, kind), text);
-        assert!(rt; found == fault_named(&rt, fault), "{line}");
+        let found = fault_in(&rt, rt.alloc(), kind_of(&rt, kind), text);
+        is_so(&rt, found == fault, line);
     }
 }
 
-/// Why a vendor with a name of so many letters isn't kept; none where it is. With a name of no bytes the text has 11.
-fn fault_of_long(alloc: Global, letters: u64) -> Result<Option<RegFault>, AllocError> {
-    let mut text = String::from_str(alloc, r#"{"name":""#)?;
-    for _ in 0..letters {
-        text.push('a')?;
-    }
-    text.push_str(r#""}"#)?;
-    Ok(fault_in(alloc, Kind::Vendor, text.as_str()))
+/// Why a vendor with a name of so many letters isn't kept. With a name of no bytes the text has 11.
+fn fault_of_long(rt: &impl Abort, alloc: Global, letters: usize) -> &'static str {
+    let text = format!(in alloc; "{{\"name\":\"{:a<letters$}\"}}", "");
+    let text = text.ok().expect(rt, "memory");
+    fault_in(rt, alloc, Kind::Vendor, text.as_str())
 }
 
 #[test]
 fn texts_have_at_most_16384_bytes(rt: HostRuntime) {
-    for (letters, fault) in [(16373, None), (16374, Some(RegFault::Field))] {
-        assert!(rt;
-            fault_of_long(rt.alloc(), letters) == Ok(fault),
-            "{letters} letters"
-        );
+    assert!(rt; fault_of_long(&rt, rt.alloc(), 16373) == "none");
+    assert!(rt; fault_of_long(&rt, rt.alloc(), 16374) == "Field");
+}
+
+/// A vendor whose member `n` is a value.
+fn vendor_with(rt: &impl Abort, alloc: Global, value: Value) -> Value {
+    match value_of(rt, alloc, r#"{"name":"V"}"#) {
+        Value::Object(mut members) => {
+            put(&mut members, alloc, "n", value)
+                .ok()
+                .expect(rt, "memory");
+            Value::Object(members)
+        }
+        _ => panic!(rt; "no object"),
     }
 }
 
-/// A vendor whose member `n` is the value of a text; none where there is none.
-fn vendor_with(alloc: Global, text: &str) -> Result<Option<Value>, AllocError> {
-    let Ok(value) = body_value(alloc, text.as_bytes()) else {
-        return Ok(None);
-    };
-    let Ok(Value::Object(mut members)) = body_value(alloc, br#"{"name":"V"}"#) else {
-        return Ok(None);
-    };
-    put(&mut members, alloc, "n", value)?;
-    Ok(Some(Value::Object(members)))
+/// Arrays of this number, one in another.
+fn arrays_of(rt: &impl Abort, alloc: Global, arrays: u64) -> Value {
+    value_of(rt, alloc, nested(rt, alloc, arrays).as_str())
 }
 
-/// Why a vendor that holds so many arrays, one in another, isn't kept; Memory also where there is none.
-fn fault_of_nested(alloc: Global, arrays: u64) -> Result<Option<RegFault>, AllocError> {
-    let text = nested(alloc, arrays)?;
-    match vendor_with(alloc, text.as_str())? {
-        Some(value) => Ok(read_object(alloc, Kind::Vendor, &value).err()),
-        None => Ok(Some(RegFault::Memory)),
-    }
+/// Why a vendor that holds so many arrays, one in another, isn't kept.
+fn fault_of_nested(rt: &impl Abort, alloc: Global, arrays: u64) -> &'static str {
+    let vendor = vendor_with(rt, alloc, arrays_of(rt, alloc, arrays));
+    word_of(read_object(alloc, Kind::Vendor, &vendor).err())
 }
 
 #[test]
 fn objects_nest_at_most_127_deep(rt: HostRuntime) {
-    for (arrays, fault) in [(126, None), (127, Some(RegFault::Field))] {
-        assert!(rt;
-            fault_of_nested(rt.alloc(), arrays) == Ok(fault),
-            "{arrays} arrays"
-        );
-    }
+    assert!(rt; fault_of_nested(&rt, rt.alloc(), 126) == "none");
+    assert!(rt; fault_of_nested(&rt, rt.alloc(), 127) == "Field");
 }
 
-/// Whether an object has this name, this vendor, and the text of a value.
-fn has_parts(
-    alloc: Global,
-    object: &Object,
-    name: &str,
-    vendor: Option<u64>,
-    value: &Value,
-) -> Result<bool, AllocError> {
-    let text = value.to_string(alloc)?;
-    Ok(object.name() == name && object.vendor() == vendor && object.text() == text.as_str())
+/// Whether an object has this kind, this name, this vendor, and the text of a value.
+fn has_parts(object: &Object, kind: Kind, (name, vendor): (&str, Option<u64>), text: &str) -> bool {
+    object.kind() == kind
+        && object.name() == name
+        && object.vendor() == vendor
+        && object.text() == text
 }
 
 /// Whether an object is this text with the URL of a number.
-fn is_with_url(alloc: Global, object: &Object, number: u64, wanted: &str) -> bool {
-    let Ok(value) = with_url(alloc, object, number) else {
-        return false;
-    };
-    match value.to_string(alloc) {
-        Ok(text) => text.as_str() == wanted,
-        Err(_) => false,
-    }
+fn is_with_url(rt: &impl Abort, alloc: Global, object: &Object, number: u64, wanted: &str) -> bool {
+    let value = with_url(alloc, object, number).ok().expect(rt, "memory");
+    text_of(rt, alloc, &value).as_str() == wanted
 }
 
-/// Whether the copy of an object has its kind, this name, this vendor, and the text of a value.
-fn is_copied(
+/// The copy of an object.
+fn copied(rt: &impl Abort, object: &Object) -> Object {
+    object.clone().ok().expect(rt, "memory")
+}
+
+/// What a text is kept as, and the text of its value.
+fn kept(rt: &impl Abort, alloc: Global, kind: Kind, text: &str) -> (Object, String) {
+    let value = value_of(rt, alloc, text);
+    let object = read_object(alloc, kind, &value)
+        .ok()
+        .expect(rt, "an object");
+    (object, text_of(rt, alloc, &value))
+}
+
+/// That a text of a kind is kept with these parts, and gets the URL of a number.
+fn gets_its_url(
+    rt: &impl Abort,
     alloc: Global,
-    object: &Object,
-    kind: Kind,
-    parts: (&str, Option<u64>),
-    value: &Value,
-) -> Result<bool, AllocError> {
-    let copy = object.clone()?;
-    let is_same = has_parts(alloc, &copy, parts.0, parts.1, value)?;
-    Ok(is_same && copy.kind() == kind)
-}
-
-/// The value of a text, or none where it is no JSON.
-fn value_of(alloc: Global, text: &str) -> Option<Value> {
-    body_value(alloc, text.as_bytes()).ok()
+    (kind, parts, number): (Kind, (&str, Option<u64>), u64),
+    texts: &str,
+) {
+    let (text, wanted) = texts.split_once(" = ").expect(rt, "two texts");
+    let (object, text) = kept(rt, alloc, kind, text);
+    assert!(rt; is_with_url(rt, alloc, &object, number, wanted));
+    assert!(rt; has_parts(&copied(rt, &object), kind, parts, text.as_str()));
 }
 
 /// What a line of `WITH_URLS` says.
-fn gets_its_url(rt: &impl Abort, alloc: Global, line: &str) -> bool {
+fn is_kept(rt: &impl Abort, alloc: Global, line: &str) {
     let (kind, rest) = cut(line);
     let (name, rest) = cut(rest);
     let (vendor, rest) = cut(rest);
     let (of, texts) = cut(rest);
-    let (text, wanted) = texts.split_once(" = ").expect(rt, "two texts");
-    let kind = kind_of(rt, kind);
-    let Some(value) = value_of(alloc, text) else {
-        return false;
-    };
-    let Ok(object) = read_object(alloc, kind, &value) else {
-        return false;
-    };
     let parts = (name, optional(rt, vendor));
-    is_copied(alloc, &object, kind, parts, &value) == Ok(true)
-        && is_with_url(alloc, &object, number(rt, of), wanted)
+    let of = (kind_of(rt, kind), parts, number(rt, of));
+    gets_its_url(rt, alloc, of, texts);
 }
 
 /// Objects of a kind, with their name, their vendor or a dash, a number, and the text with its URL.
@@ -215,7 +221,7 @@ Environment E - 0 {"vendorUrl":"/acvp/v1/vendors/7000001","name":"E"} = {"name":
 #[test]
 fn objects_get_their_urls(rt: HostRuntime) {
     for line in WITH_URLS.lines() {
-        assert!(rt; gets_its_url(&rt, rt.alloc(), line), "{line}");
+        is_kept(&rt, rt.alloc(), line);
     }
     let certified = object_url(rt.alloc(), Kind::Certification, 7);
     assert!(rt; certified.is_ok_and(|url| url.is_none()));

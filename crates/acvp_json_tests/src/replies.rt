@@ -2,13 +2,15 @@
 //! seed, read by the rules of the choice of tests, and digests and HMACs are those of Python's `hashlib` and `hmac`;
 //! the texts of results are those of Python's `json`, with sorted members.
 
-use crate::shown::shows;
-use acvp_answers::{Answers, standard};
-use acvp_caps::{CapFault, Capability};
+use crate::lines::is_so;
+use crate::shown::{is, text_of};
+use acvp_answers::{Answers, Disposition, Verdict, standard};
+use acvp_caps::Capability;
 use acvp_gen::{Prompts, prompts};
-use acvp_json::{ReplyObject, write_reply};
+use acvp_json::ReplyObject;
 use serde_json::Value;
 use std::alloc::Global;
+use std::process::Abort;
 
 const HASH: &str = r#"{"algorithm":"SHA2-256","revision":"1.0","messageLength":[8]}"#;
 
@@ -100,88 +102,83 @@ const LAST_CHECKPOINT: &str =
     \"tcId\":19}],\"tgId\":2}],\"vsId\":0}]";
 
 /// The prompts of the vector set of a number under a seed of zeros.
-fn prompts_of(alloc: Global, vs: u64, capability: &str) -> Result<Prompts, CapFault> {
-    let capability = Capability::from_text(alloc, capability)?;
-    prompts(alloc, &[0; 32], vs, &capability).map_err(|_| CapFault::Memory)
-}
-
-/// The text of a reply; none where memory runs out.
-fn text_of<'a>(alloc: Global, reply: &'a ReplyObject<'a>) -> Option<String> {
-    match write_reply(alloc, reply) {
-        Ok(text) => String::from_utf8(text).ok(),
-        Err(_) => None,
-    }
+pub(crate) fn prompts_of(rt: &impl Abort, alloc: Global, vs: u64, capability: &str) -> Prompts {
+    let capability = Capability::from_text(alloc, capability);
+    let capability = capability.ok().expect(rt, "a capability");
+    prompts(alloc, &[0; 32], vs, &capability)
+        .ok()
+        .expect(rt, "prompts")
 }
 
 /// The text of a vector set.
-fn set_text(alloc: Global, vs: u64, capability: &str, sample: bool) -> Option<String> {
-    match prompts_of(alloc, vs, capability) {
-        Ok(prompts) => text_of(
-            alloc,
-            &ReplyObject::ReadSet {
-                sample,
-                prompts: &prompts,
-            },
-        ),
-        Err(_) => None,
+fn set_text(rt: &impl Abort, alloc: Global, vs: u64, capability: &str, sample: bool) -> String {
+    let prompts = prompts_of(rt, alloc, vs, capability);
+    text_of(
+        rt,
+        alloc,
+        &ReplyObject::ReadSet {
+            sample,
+            prompts: &prompts,
+        },
+    )
+}
+
+/// The text of the standard's answers to prompts, or of none.
+fn answers_text(rt: &impl Abort, alloc: Global, prompts: &Prompts, are_there: bool) -> String {
+    let standard = answers_to(rt, alloc, prompts, are_there);
+    text_of(
+        rt,
+        alloc,
+        &ReplyObject::Expected {
+            prompts,
+            standard: &standard,
+        },
+    )
+}
+
+/// The standard's answers to prompts, or none.
+fn answers_to(rt: &impl Abort, alloc: Global, prompts: &Prompts, are_there: bool) -> Answers {
+    if are_there {
+        standard(alloc, prompts).ok().expect(rt, "answers")
+    } else {
+        Answers::new(alloc)
     }
 }
 
-/// The text of answers as the expected ones.
-fn answers_text(alloc: Global, prompts: &Prompts, standard: &Answers) -> Option<String> {
-    text_of(alloc, &ReplyObject::Expected { prompts, standard })
+/// The text of the expected answers to a capability's vector set, or where no test is answered.
+fn expected_text(rt: &impl Abort, alloc: Global, capability: &str, are_there: bool) -> String {
+    answers_text(rt, alloc, &prompts_of(rt, alloc, 0, capability), are_there)
 }
 
-/// The text of the standard's answers to prompts.
-fn standard_text(alloc: Global, prompts: &Prompts) -> Option<String> {
-    match standard(alloc, prompts) {
-        Ok(right) => answers_text(alloc, prompts, &right),
-        Err(_) => None,
-    }
-}
-
-/// The text of the expected answers to a capability's vector set.
-fn expected_text(alloc: Global, capability: &str) -> Option<String> {
-    match prompts_of(alloc, 0, capability) {
-        Ok(prompts) => standard_text(alloc, &prompts),
-        Err(_) => None,
-    }
-}
-
-/// The same where no test is answered.
-fn unanswered_text(alloc: Global, capability: &str) -> Option<String> {
-    match prompts_of(alloc, 0, capability) {
-        Ok(prompts) => answers_text(alloc, &prompts, &Answers::new(alloc)),
-        Err(_) => None,
-    }
-}
-
-/// Whether there is a text, and it is this one.
-fn is_text(text: Option<String>, wanted: &str) -> bool {
-    text.is_some_and(|text| text.as_str() == wanted)
-}
-
-/// Whether there is a text, and it ends so.
-fn has_end(text: Option<String>, end: &str) -> bool {
-    text.is_some_and(|text| text.as_str().ends_with(end))
+/// That a vector set is written as this text.
+fn is_set(rt: &impl Abort, alloc: Global, vs: u64, capability: &str, sample: bool, wanted: &str) {
+    let text = set_text(rt, alloc, vs, capability, sample);
+    is_so(rt, text.as_str() == wanted, wanted);
 }
 
 #[test]
 fn vector_sets_of_hash_functions_and_hmac(rt: HostRuntime) {
-    assert!(rt; is_text(set_text(rt.alloc(), 0, HASH, true), HASH_SET));
-    assert!(rt; is_text(set_text(rt.alloc(), 700000101, HASH, false), LATER_HASH_SET));
-    assert!(rt; is_text(set_text(rt.alloc(), 0, HMAC, false), HMAC_SET));
+    is_set(&rt, rt.alloc(), 0, HASH, true, HASH_SET);
+    is_set(&rt, rt.alloc(), 700000101, HASH, false, LATER_HASH_SET);
+    is_set(&rt, rt.alloc(), 0, HMAC, false, HMAC_SET);
 }
 
 #[test]
 fn a_vector_set_with_a_monte_carlo_test(rt: HostRuntime) {
-    assert!(rt; has_end(set_text(rt.alloc(), 0, MONTE_CARLO, false), MONTE_CARLO_SET));
+    let text = set_text(&rt, rt.alloc(), 0, MONTE_CARLO, false);
+    assert!(rt; text.as_str().ends_with(MONTE_CARLO_SET));
+}
+
+/// That the expected answers to a capability's vector set are written as this text.
+fn are_expected(rt: &impl Abort, alloc: Global, capability: &str, wanted: &str) {
+    let text = expected_text(rt, alloc, capability, true);
+    is_so(rt, text.as_str() == wanted, wanted);
 }
 
 #[test]
 fn expected_digests_and_macs(rt: HostRuntime) {
-    assert!(rt; is_text(expected_text(rt.alloc(), HASH), HASH_EXPECTED));
-    assert!(rt; is_text(expected_text(rt.alloc(), HMAC), HMAC_EXPECTED));
+    are_expected(&rt, rt.alloc(), HASH, HASH_EXPECTED);
+    are_expected(&rt, rt.alloc(), HMAC, HMAC_EXPECTED);
 }
 
 /// How many checkpoints a text of expected answers has.
@@ -204,33 +201,85 @@ fn has_checkpoints(alloc: Global, text: &str) -> bool {
 
 #[test]
 fn a_hundred_expected_checkpoints(rt: HostRuntime) {
-    let has_them = match expected_text(rt.alloc(), MONTE_CARLO) {
-        Some(text) => has_checkpoints(rt.alloc(), text.as_str()),
-        None => false,
-    };
-    assert!(rt; has_them);
+    let text = expected_text(&rt, rt.alloc(), MONTE_CARLO, true);
+    assert!(rt; has_checkpoints(rt.alloc(), text.as_str()));
+}
+
+/// That the text where no test is answered ends so.
+fn is_unanswered(rt: &impl Abort, alloc: Global, capability: &str, end: &str) {
+    let text = expected_text(rt, alloc, capability, false);
+    is_so(rt, text.as_str().ends_with(end), end);
 }
 
 /// Where no test is answered, each digest and HMAC is the empty text, and there are no checkpoints.
 #[test]
 fn expected_answers_that_are_not_there(rt: HostRuntime) {
     let hash = r#"{"md":"","tcId":17}],"tgId":1}],"vsId":0}]"#;
-    assert!(rt; has_end(unanswered_text(rt.alloc(), HASH), hash));
+    is_unanswered(&rt, rt.alloc(), HASH, hash);
     let hmac = r#"{"mac":"","tcId":9}],"tgId":3}],"vsId":0}]"#;
-    assert!(rt; has_end(unanswered_text(rt.alloc(), HMAC), hmac));
+    is_unanswered(&rt, rt.alloc(), HMAC, hmac);
     let monte_carlo = r#"{"tests":[{"resultsArray":[],"tcId":19}],"tgId":2}],"vsId":0}]"#;
-    assert!(rt; has_end(unanswered_text(rt.alloc(), MONTE_CARLO), monte_carlo));
+    is_unanswered(&rt, rt.alloc(), MONTE_CARLO, monte_carlo);
 }
 
-const VERDICTS: &str =
-    r#"SetResults 700000101 passed passed = [{"acvVersion":"1.0"},{"disposition":"passed","tests":[{"result":"passed","tcId":1}],"vsId":700000101}]
-SetResults 700000101 fail passed fail missing = [{"acvVersion":"1.0"},{"disposition":"fail","tests":[{"result":"passed","tcId":1},{"result":"fail","tcId":2},{"result":"missing","tcId":3}],"vsId":700000101}]
-SetResults 700000101 missing missing passed = [{"acvVersion":"1.0"},{"disposition":"missing","tests":[{"result":"missing","tcId":1},{"result":"passed","tcId":2}],"vsId":700000101}]
-SetResults 999999999920 expired missing missing missing = [{"acvVersion":"1.0"},{"disposition":"expired","tests":[{"result":"missing","tcId":1},{"result":"missing","tcId":2},{"result":"missing","tcId":3}],"vsId":999999999920}]
-SetResults 0 unreceived = [{"acvVersion":"1.0"},{"disposition":"unreceived","tests":[],"vsId":0}]
-"#;
+/// That the verdicts on a set's tests are written as this text.
+fn are_verdicts(
+    rt: &impl Abort,
+    alloc: Global,
+    vs: u64,
+    disposition: Disposition,
+    verdicts: &[Verdict],
+    wanted: &str,
+) {
+    let reply = ReplyObject::SetResults {
+        vs,
+        disposition,
+        verdicts,
+    };
+    is(rt, alloc, &reply, wanted);
+}
 
 #[test]
 fn tests_have_their_verdicts_by_their_numbers(rt: HostRuntime) {
-    shows(&rt, rt.alloc(), VERDICTS);
+    let alloc = rt.alloc();
+    are_verdicts(
+        &rt,
+        alloc,
+        700000101,
+        Disposition::Passed,
+        &[Verdict::Passed],
+        r#"[{"acvVersion":"1.0"},{"disposition":"passed","tests":[{"result":"passed","tcId":1}],"vsId":700000101}]"#,
+    );
+    are_verdicts(
+        &rt,
+        alloc,
+        700000101,
+        Disposition::Fail,
+        &[Verdict::Passed, Verdict::Fail, Verdict::Missing],
+        r#"[{"acvVersion":"1.0"},{"disposition":"fail","tests":[{"result":"passed","tcId":1},{"result":"fail","tcId":2},{"result":"missing","tcId":3}],"vsId":700000101}]"#,
+    );
+    are_verdicts(
+        &rt,
+        alloc,
+        700000101,
+        Disposition::Missing,
+        &[Verdict::Missing, Verdict::Passed],
+        r#"[{"acvVersion":"1.0"},{"disposition":"missing","tests":[{"result":"missing","tcId":1},{"result":"passed","tcId":2}],"vsId":700000101}]"#,
+    );
+    are_verdicts(
+        &rt,
+        alloc,
+        999999999920,
+        Disposition::Expired,
+        &[Verdict::Missing, Verdict::Missing, Verdict::Missing],
+        r#"[{"acvVersion":"1.0"},{"disposition":"expired","tests":[{"result":"missing","tcId":1},{"result":"missing","tcId":2},{"result":"missing","tcId":3}],"vsId":999999999920}]"#,
+    );
+    are_verdicts(
+        &rt,
+        alloc,
+        0,
+        Disposition::Unreceived,
+        &[],
+        r#"[{"acvVersion":"1.0"},{"disposition":"unreceived","tests":[],"vsId":0}]"#,
+    );
 }
