@@ -8,7 +8,7 @@ use Rattle.acvp_copying.specs.declared.copying.Seen.{Seen}
 pub data Deed (N : Type 0) : Type 0 where
   -- the database's files were looked at
   Looked : Seen N → Deed N
-  -- whether somebody has the database or its log, but not both
+  -- whether somebody has the database or its log, but not both, as far as the system tells
   Apart : Bool → Deed N
   -- the database, or its log, was copied in the place of all that the copy held; it was there, or the copy is empty
   Copied : Half → Bool → Deed N
@@ -30,7 +30,7 @@ pub data Deed (N : Type 0) : Type 0 where
   OldCopied : Deed N
   -- the copy of it was brought to the disk
   OldSynced : Deed N
-  -- the copy of it got its owner, its group and its mode
+  -- the copy of it got its owner, its group and its mode, or stayed its maker's alone
   AccessKept : Deed N
   -- whether the path is still that of the database that is to be replaced
   StillThere : Bool → Deed N

@@ -45,7 +45,7 @@ pub trait Copying: Making<Number: PartialEq + Copy> {
     fn look(&mut self) -> Result<Seen<Self::Number>, Self::Fault>
         ensures { IfOk result (λ seen. Self.does self.old (Looked seen) self.new) };
 
-    /// Whether somebody has the database or its log, but not both.
+    /// Whether somebody has the database or its log, but not both, as far as the system tells.
     fn are_apart(&mut self) -> Result<bool, Self::Fault>
         ensures { IfOk result (λ is_apart. Self.does self.old (Apart is_apart) self.new) };
 

@@ -41,7 +41,7 @@ pub trait Replacing: Placing {
     fn sync_old(&mut self) -> Result<(), Self::Fault>
         ensures { IfOk result (λ done. Self.does self.old OldSynced self.new) };
 
-    /// Gives the copy of the database its owner, its group and its mode.
+    /// Gives the copy of the database its owner, its group and its mode, or leaves it to its maker alone.
     fn keep_access(&mut self) -> Result<(), Self::Fault>
         ensures { IfOk result (λ done. Self.does self.old AccessKept self.new) };
 
