@@ -1,11 +1,12 @@
-"""Where a reply can be `unavailable` in twelve crates, from acvp_mac to acvp_http, an error was met: each place of their
-sources that makes such a refusal is an arm for an error of a call that may refuse, or stands behind one, or is one of
-the places below, each with what leads to it.
+"""In eighteen crates each place that makes a refusal without a rule (`unavailable` of a reply, `unavailable` or `memory`
+of a command) is an arm for an error of a call that may refuse, or stands behind one, or is one of the places below, each
+with what leads to it. The crates that only look, copy or print aren't searched: acvp_audit, acvp_causes, acvp_check,
+acvp_files, acvp_log, acvp_server and acvp_view.
 
     refusals-have-a-cause.py [--list]
 
-With --list it prints what it finds. It reads text and follows no types, so it finds what is written carelessly, as the
-wrong bodies that it tries; code that means to fool it, as by an allocation that can't succeed, passes."""
+With --list it prints what it finds. It reads text and follows no types. So it finds the wrong bodies that it tries and
+what is like them, and passes others, as one that puts a condition before an error's arm, or allocates too much."""
 import collections
 import glob
 import os
@@ -13,20 +14,24 @@ import re
 import sys
 
 TOP = os.path.join(os.path.dirname(os.path.abspath(__file__)), "..", "..")
-CRATES = ("mac", "token", "policy", "caps", "gen", "answers", "registry", "tables", "json", "store", "desk", "http")
+CRATES = ("mac", "token", "policy", "caps", "gen", "answers", "registry", "tables", "json", "store", "desk", "http",
+          "keys", "connections", "copying", "commands", "opening", "port")
 VARIANTS = {"Rule": "Unavailable", "OrderReply": "Unavailable", "StoreFault": "Memory|Refused", "AdoptFault": "Memory|Refused",
             "NewFault": "Memory|Store", "TokenFault": "Memory", "BodyFault": "Memory", "CapFault": "Memory", "RegFault": "Memory",
-            "ReceiveFault": "Memory", "ScriptFault": "Memory", "TextFault": "Memory|Letter"}
-NAMED = "|".join(f"{enum}::(?:{names})" for enum, names in VARIANTS.items())
+            "ReceiveFault": "Memory", "ScriptFault": "Memory", "TextFault": "Memory|Letter", "FileFault": "Memory|Unavailable|Broken",
+            "Fault": "Memory|Unavailable", "Unopened": "Taken"}
+NAMED = "|".join(f"{enum}>?::(?:{names})" for enum, names in VARIANTS.items())
 # a value of it, and not the name of its type
 MADE = re.compile(
     rf"(?:\b(?:{NAMED}|Self::(?:Memory|Refused|Unavailable))\b"
     r"|(?<!: )(?<!-> )(?<!for )(?<![\w<])(?<!struct )AllocError\b(?!::|>)|AllocFailed \{"
-    r"|\bErrorCode::\w+|(?<!\w)Error::\w+|\#\[default\]|\bmacro_rules!)")
+    r"|\bErrorCode::\w+|(?<!\w)Error::\w+|\bErrorKind::OutOfMemory\b"
+    r"|(?<!fn )\b(?:fault_of_changes|fault_of_place|fault_of_cause|refused|said_of|done_by_server)\((?!&?self\b)"
+    r"|\#\[default\]|\bmacro_rules!)")
 # an arm for an error, or a block behind one
 MET = rf"(?:{NAMED}|DecodeAllocError::OutOfMemory)"
 ERROR = re.compile(rf"(?:Ok\()?Err\((?:\(?(?:\w+, )*\w+\)?|{MET})\)\)?(?: if [^|]*)?(?: => \w+)?$|{MET}(?: \| {MET})*$")
-BEHIND = re.compile(r"^let Ok\((?:mut )?\w+\) = .*else$|^if [^|]*\.is_err\(\)$|^fn from\(_\w*: Alloc(?:Error|Failed<T>)\) -> \w+$")
+BEHIND = re.compile(r"^let Ok\((?:mut )?\w+\) = .*else$|^if (?:(?!&&)[^|])*\.is_err\(\)$|^fn from\(_\w*: Alloc(?:Error|Failed<T>)\) -> \w+$")
 
 # The calls whose every error is want of memory or a refusal of the store, or is met in a row that stands for nothing.
 CALLS = set("""
@@ -35,7 +40,8 @@ desk:grade desk:issue_ring desk:look_at desk:may_be_approved desk:new desk:numbe
 desk:order desk:push desk:request desk:requests_shown desk:results_at desk:reviewer desk:take desk:with_account
 desk:with_capacity desk:without_account desk:written http:add_all http:extend_from_slice http:push json:with_url
 store:answers_from_text store:body_value store:from_text store:push store:read_object store:same_schema
-store:try_from tables:insert tables:push
+store:try_from tables:insert tables:push connections:new connections:file_at connections:exists opening:order_line port:push
+port:socket_path port:with_capacity port:new port:extend_from_slice
 """.split())
 CALL = re.compile(r"(?:= |match |if )(?:&?\w+(?:\.|::)|<[^>]*>::)*(\w+)\(")
 TYPED = re.compile(r"::(?:Memory|OutOfMemory|Letter|Refused)\b|is_memory\(\)$|^fn from|^\w+::\w+$")
@@ -88,6 +94,36 @@ desk set draft_set: SetPlace::Made(_, None) | SetPlace::Submit(None) | SetPlace:
 desk submit graded_by: if epoch > cache.seeds().newest()
 desk submit draft_answers: let Some(kept) = kept_answers(session, number, others, graded) else
 http reply is_unavailable: pub fn is_unavailable(&self) -> bool
+connections connection files_at: if path == "" || path.starts_with("")
+connections connection is_still: Ok(_)
+connections connection why_unfound: OpenError::Busy
+connections connection why_unfound: OpenError::Io(error)
+connections connection may_be_taken: Some(because)
+connections fault done: Err(error)
+copying copying copy_whole: F::Fault>
+copying replacing take_place: if !files.is_still_there()
+copying replacing take_place: if files.is_log_full()?
+copying replacing place_alone: if files.is_log_full()? || files.is_log_held()?
+opening command asked: Ok(answer)
+connections connection has_its_log: if is_moved(rt, path, log.as_str())?
+connections connection connect_known: if has_no_log(rt, path) && is_foreign(rt, path)
+connections connection may_be_made: if is_companion(path) || is_copy(path) || cause_of_path(path).is_some() || is_left_alone(rt, path)?
+connections connection connect_there: Ok(false)
+connections connection why_unfound: OpenError::HotJournal
+connections connection why_unfound: OpenError::OutOfMemory
+connections fault fault_of_error: Error::SqliteFailure(ErrorCode::NotADatabase | ErrorCode::DatabaseCorrupt)
+connections fault fault_of_error: Error::SqliteFailure(ErrorCode::OutOfMemory)
+connections fault fault_of_error: _
+connections fault fault_of_cause: Cause::Memory
+connections fault fault_of_cause: _
+connections fault refused: _
+connections fault refused: io::ErrorKind::OutOfMemory
+commands fault of_system: io::ErrorKind::OutOfMemory
+commands orders outcome_of: (Order::ApproveRequest { request: _ }, None)
+opening answers fault_in: ""
+opening answers fault_in: ""
+opening command said_of: None
+opening command done_by_server: _
 """
 # Wrong bodies: a file, what stands there, and what is put before it. The contracts allow the first five.
 WRONG = [
@@ -103,6 +139,13 @@ WRONG = [
     ("desk/src/set.rt", "    let SetSource { capability, epoch } = source;", "    let Ok(_) = told else {\n        return Err(rule);\n    };\n    return Err(Rule::Unavailable);\n"),
     ("desk/src/set.rt", "    let SetSource { capability, epoch } = source;", "    if number > 12 || cache.take(number).is_err() {\n        return Err(Rule::Unavailable);\n    }\n"),
     ("tables/src/list.rt", "        Ok(first_shown(&self.sets, &SetIs", "        if number == 7 {\n            return Err(AllocError.into());\n        }\n"),
+    ("opening/src/command.rt", "    let moment = databases.moment();", "    if name.len() > 9 {\n        return Err(Fault::Memory);\n    }\n"),
+    ("opening/src/working.rt", "    let (connection, outcome) = done_over(", "    if added.is_some() {\n        return (connection, Err(Fault::Memory), false);\n    }\n"),
+    ("commands/src/done.rt", "    let mut tables = tables;\n", "    if order == &(Order::DisableAccount { account: 7 }) {\n        return (tables, Err(Fault::Unavailable));\n    }\n"),
+    ("connections/src/connection.rt", "    match fs::exists(rt, path) {", "    if path.len() > 20 {\n        return Err(Unopened::Taken);\n    }\n"),
+    ("copying/src/replacing.rt", "    files.remove_log()?;\n    files.take_path()", "    if files.is_still_there() {\n        return Err(files.fault_of_place());\n    }\n"),
+    ("port/src/client.rt", "        match rest.extend_from_slice(buf) {", "        if buf.len() > 500 {\n            return Err(ErrorKind::OutOfMemory.into());\n        }\n"),
+    ("connections/src/connection.rt", "    settle_names(rt, path);", "    if path.len() > 20 {\n        return Err(Unopened::Failed(FileFault::Unavailable));\n    }\n"),
     ("desk/src/token.rt", "\nuse ", "\nmacro_rules! refused {\n    () => {\n        Rule::Unavailable\n    };\n}\nuse "),
 ]
 
