@@ -1,5 +1,6 @@
 //! What the rows of a query's answer are of.
-ghost use Rattle.std.specs.Prelude.{MatchResult, ◌≡◌, map, slice_get, option_to_list, IfOk, IfErr, IsOk, Ok, List, IsPermutation};
+ghost use Rattle.std.specs.Prelude.{MatchResult, ◌≡◌, map, slice_get, option_to_list, IfOk, IfErr, IsOk, Ok, List};
+ghost use Rattle.std.specs.Prelude.{IsPermutation};
 ghost use Rattle.std.specs.List.{AllZip, AllByRecursion};
 ghost use Rattle.sqlite_value.specs.Order.{Row as Columns};
 ghost use Rattle.acvp_store.specs.Private.Pages.{IsRowOf};
