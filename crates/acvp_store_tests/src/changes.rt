@@ -1,6 +1,6 @@
 //! Changes of any form of the tables, by their names, through the policy's decisions.
 
-ghost use Rattle.std.specs.Prelude.{◌≡◌, ◌/◌, false, IfSome};
+ghost use Rattle.std.specs.Prelude.{◌≡◌, ◌/◌, false};
 ghost use Rattle.acvp_policy.specs.Decision.{granted};
 ghost use Rattle.acvp_policy.specs.declared.action.Action.TheVariants as action;
 ghost use Rattle.acvp_policy.specs.declared.facts.Standing.TheVariants as standing;
@@ -9,12 +9,13 @@ ghost use Rattle.acvp_policy.specs.declared.resource.Resource.TheVariants as res
 ghost use Rattle.acvp_tables.specs.Covers.{Covers, request_action};
 ghost use Rattle.acvp_tables.specs.Own.{Fits};
 
-use crate::words::{account_in, cut, kind_of, number};
+use crate::reads::{put_fault, put_word};
+use crate::words::{Of, account, is_so, kind_in};
 use acvp_answers::{Answers, Verdict};
 use acvp_caps::{Registration, read_registration};
 use acvp_policy::{
-    Action, Claims, Facts, LoginFacts, Renewal, ReviewerSubject, SessionFacts, SessionSubject,
-    SetFacts, SetSubject, Standing, Subject, Token, UserFacts, decide,
+    Action, Claims, Facts, Grant, LoginFacts, Renewal, ReviewerSubject, SessionFacts,
+    SessionSubject, SetFacts, SetSubject, Standing, Subject, Token, UserFacts, decide,
 };
 use acvp_registry::{Kind, Object, body_value, read_object};
 use acvp_tables::{
@@ -25,8 +26,82 @@ use acvp_tables::{
 use std::alloc::Global;
 use std::process::Abort;
 
-/// What came of a change; None where it did not come to the tables.
-type Outcome = Option<Result<(), StoreFault>>;
+/// Changes.
+#[derive(Clone, Copy)]
+enum Made {
+    /// An account is added.
+    Adds,
+
+    /// An account is disabled.
+    Disables,
+
+    /// A request is approved, with a number for what it gives.
+    Approves,
+
+    /// A request is rejected.
+    Rejects,
+
+    /// An account uses a step.
+    LogsIn,
+
+    /// A session with two vector sets begins, of the account that its number says.
+    Begins,
+
+    /// Account 7 asks for the registration of the object of a kind.
+    Asks,
+
+    /// An answer that passes is kept, to a set of the first session of account 7.
+    Passes,
+
+    /// The same of one that fails.
+    Fails,
+
+    /// The second set of that session is cancelled, where the first has passed.
+    CancelsSecondSet,
+
+    /// That session is cancelled.
+    CancelsSession,
+
+    /// Its certification is asked for, by the first request of account 7.
+    Certifies,
+
+    /// A reviewer of it is put in.
+    PutsIn,
+
+    /// A reviewer of it is taken out.
+    TakesOut,
+}
+
+/// The names of changes.
+const CHANGES: &[(&str, Made)] = &[
+    ("adds", Made::Adds),
+    ("disables", Made::Disables),
+    ("approves", Made::Approves),
+    ("rejects", Made::Rejects),
+    ("logs_in", Made::LogsIn),
+    ("begins", Made::Begins),
+    ("asks", Made::Asks),
+    ("passes", Made::Passes),
+    ("fails", Made::Fails),
+    ("cancels_second_set", Made::CancelsSecondSet),
+    ("cancels_session", Made::CancelsSession),
+    ("certifies", Made::Certifies),
+    ("puts_in", Made::PutsIn),
+    ("takes_out", Made::TakesOut),
+];
+
+/// The change of this name, if there is one.
+fn change_named(name: &str) -> Option<Made> {
+    for (of, made) in CHANGES {
+        if *of == name {
+            return Some(*made);
+        }
+    }
+    None
+}
+
+/// What came of a change.
+type Outcome = Result<(), StoreFault>;
 
 /// The secret of every account here.
 pub(crate) const SECRET: [u8; 32] = [49; 32];
@@ -77,49 +152,71 @@ fn facts(account: u16, session: Option<u64>, subject: Subject) -> Facts
     }
 }
 
-/// Applies a change that the policy allows on these facts.
-fn applied<T: Tables>(tables: &mut T, action: Action, facts: &Facts, change: &Change) -> Outcome
-    requires covers { Covers (granted action facts.now) change.now }
-    requires fits { Fits change.now }
+/// The grant of an action that the policy allows on these facts.
+fn grant_of(rt: &impl Abort, action: Action, facts: &Facts) -> Grant
+    ensures grant { result ≡ granted action facts.now }
 {
     match decide(action, facts) {
-        Ok(grant) => Some(tables.apply(grant, change)),
-        Err(_) => None,
+        Ok(grant) => grant,
+        Err(_) => panic!(rt; "not granted"),
     }
+}
+
+/// Applies a change that the policy allows on these facts.
+fn applied<T: Tables>(
+    rt: &impl Abort,
+    tables: &mut T,
+    action: Action,
+    facts: &Facts,
+    change: Change,
+) -> Outcome
+    requires covers { Covers (granted action facts.now) change }
+    requires fits { Fits change }
+{
+    tables.apply(grant_of(rt, action, facts), &change)
 }
 
 /// Applies what an account may change of its own rows.
 #[tactic(auto, unfolding(acvp_policy::specs::Decision::granted))]
-fn on_account<T: Tables>(tables: &mut T, account: u16, action: Action, change: &Change) -> Outcome
-    requires covers { Covers (record { action = action; account = account; resource = resource.Account }) change.now }
-    requires fits { Fits change.now }
+fn on_account<T: Tables>(
+    rt: &impl Abort,
+    tables: &mut T,
+    account: u16,
+    action: Action,
+    change: Change,
+) -> Outcome
+    requires covers { Covers (record { action = action; account = account; resource = resource.Account }) change }
+    requires fits { Fits change }
 {
-    applied(
-        tables,
-        action,
-        &facts(account, None, Subject::Account),
-        change,
-    )
+    let facts = facts(account, None, Subject::Account);
+    applied(rt, tables, action, &facts, change)
 }
 
 /// Applies what account 7 may change of its first session.
 #[tactic(auto, unfolding(acvp_policy::specs::Decision::granted))]
-fn on_session<T: Tables>(tables: &mut T, action: Action, change: &Change) -> Outcome
-    requires covers { Covers (record { action = action; account = 7; resource = resource.Session 7000001 }) change.now }
-    requires fits { Fits change.now }
+fn on_session<T: Tables>(rt: &impl Abort, tables: &mut T, action: Action, change: Change) -> Outcome
+    requires covers { Covers (record { action = action; account = 7; resource = resource.Session 7000001 }) change }
+    requires fits { Fits change }
 {
     let subject = Subject::Session(SessionSubject {
         session: 7000001,
         found: Some(open_session()),
     });
-    applied(tables, action, &facts(7, Some(7000001), subject), change)
+    let facts = facts(7, Some(7000001), subject);
+    applied(rt, tables, action, &facts, change)
 }
 
 /// Applies what account 7 may change of a vector set of its first session.
 #[tactic(auto, unfolding(acvp_policy::specs::Decision::granted))]
-fn on_set<T: Tables>(tables: &mut T, set: u64, action: Action, change: &Change) -> Outcome
-    requires covers { Covers (record { action = action; account = 7; resource = resource.Set 7000001 set }) change.now }
-    requires fits { Fits change.now }
+fn on_set<T: Tables>(
+    rt: &impl Abort,
+    tables: &mut T,
+    set: u64,
+    action: Action,
+    change: Change,
+) -> Outcome
+    requires covers { Covers (record { action = action; account = 7; resource = resource.Set 7000001 set }) change }
+    requires fits { Fits change }
 {
     let subject = Subject::Set(SetSubject {
         session: 7000001,
@@ -130,26 +227,13 @@ fn on_set<T: Tables>(tables: &mut T, set: u64, action: Action, change: &Change) 
             answered: false,
         }),
     });
-    applied(tables, action, &facts(7, Some(7000001), subject), change)
-}
-
-/// Adds an account.
-fn add_account<T: Tables>(tables: &mut T, account: u16) -> Result<(), StoreFault> {
-    let added = NewAccount {
-        account,
-        secret: SECRET,
-    };
-    tables.order(&OrderChange::AddAccount(added))
-}
-
-/// Disables an account.
-fn disable_account<T: Tables>(tables: &mut T, account: u16) -> Result<(), StoreFault> {
-    tables.order(&OrderChange::DisableAccount(account))
+    let facts = facts(7, Some(7000001), subject);
+    applied(rt, tables, action, &facts, change)
 }
 
 /// Uses a step, by a login.
 #[tactic(auto, unfolding(acvp_policy::specs::Decision::granted))]
-fn use_step<T: Tables>(tables: &mut T, account: u16, step: u64) -> Outcome {
+fn use_step<T: Tables>(rt: &impl Abort, tables: &mut T, account: u16, step: u64) -> Outcome {
     let subject = Subject::Login(LoginFacts {
         user: Some(UserFacts {
             account,
@@ -158,70 +242,60 @@ fn use_step<T: Tables>(tables: &mut T, account: u16, step: u64) -> Outcome {
         }),
         renewal: Renewal::Unasked,
     });
-    applied(
-        tables,
-        Action::Login,
-        &facts(account, None, subject),
-        &Change::UseStep(UsedStep { account, step }),
-    )
+    let facts = facts(account, None, subject);
+    let change = Change::UseStep(UsedStep { account, step });
+    applied(rt, tables, Action::Login, &facts, change)
 }
 
 /// What the two capabilities are read as.
-fn registration(alloc: Global) -> Option<Registration> {
-    let Ok(value) = body_value(alloc, REGISTRATION.as_bytes()) else {
-        return None;
-    };
-    read_registration(alloc, &value).ok()
+fn registration(rt: &impl Abort, alloc: Global) -> Registration {
+    let value = body_value(alloc, REGISTRATION.as_bytes()).ok();
+    let value = value.expect(rt, "a value");
+    read_registration(alloc, &value)
+        .ok()
+        .expect(rt, "capabilities")
 }
 
 /// Adds a session with two vector sets, of the account that its number says.
-fn add_session<T: Tables>(alloc: Global, tables: &mut T, number: u64) -> Outcome {
+fn add_session<T: Tables>(rt: &impl Abort, alloc: Global, tables: &mut T, number: u64) -> Outcome {
     let Ok(account) = u16::try_from(number / 1000000) else {
-        return None;
+        panic!(rt; "no account");
     };
     let session = NewSession {
         number,
         account,
         created: CREATED,
         epoch: 2,
-        registration: registration(alloc)?,
+        registration: registration(rt, alloc),
     };
     on_account(
+        rt,
         tables,
         account,
         Action::NewSession,
-        &Change::NewSession(session),
+        Change::NewSession(session),
     )
 }
 
-/// Cancels the first session of account 7.
-fn cancel_session<T: Tables>(tables: &mut T) -> Outcome {
-    on_session(
-        tables,
-        Action::CancelSession,
-        &Change::CancelSession(7000001),
-    )
+/// A list of one item.
+fn list_of<I: Drop>(rt: &impl Abort, alloc: Global, item: I) -> Vec<I> {
+    let mut items = Vec::new(alloc);
+    items.push(item).ok().expect(rt, "memory");
+    items
 }
 
-/// One answer, with a verdict on it.
-fn graded(alloc: Global, verdict: Verdict) -> Result<Graded, StoreFault> {
-    let mut texts = Vec::new(alloc);
-    if texts.push(String::from_str(alloc, "ab")?).is_err() {
-        return Err(StoreFault::Memory);
-    }
+/// An answer to the first test case.
+fn answers(rt: &impl Abort, alloc: Global) -> Answers {
+    let text = String::from_str(alloc, "ab").ok().expect(rt, "memory");
     let mut answers = Answers::new(alloc);
-    if !answers.insert(1, texts)? {
-        return Err(StoreFault::Refused);
-    }
-    let mut verdicts = Vec::new(alloc);
-    if verdicts.push(verdict).is_err() {
-        return Err(StoreFault::Memory);
-    }
-    Ok(Graded::new(answers, verdicts))
+    let is_new = answers.insert(1, list_of(rt, alloc, text)).ok();
+    is_so(rt, is_new == Some(true), "an answer");
+    answers
 }
 
 /// Keeps an answer with a verdict, to a set of the first session of account 7.
 fn keep_answer<T: Tables>(
+    rt: &impl Abort,
     alloc: Global,
     tables: &mut T,
     set: u64,
@@ -229,44 +303,39 @@ fn keep_answer<T: Tables>(
     passed: u64,
 ) -> Outcome {
     if set / 100 != 7000001 {
-        return None;
+        panic!(rt; "no set of that session");
     }
-    let Ok(graded) = graded(alloc, verdict) else {
-        return None;
-    };
     let kept = KeptAnswers {
         session: 7000001,
         set,
-        graded,
+        graded: Graded::new(answers(rt, alloc), list_of(rt, alloc, verdict)),
         passed,
     };
-    on_set(tables, set, Action::Submit, &Change::KeepAnswers(kept))
+    on_set(rt, tables, set, Action::Submit, Change::KeepAnswers(kept))
 }
 
 /// Cancels the second set of that session, where the first has passed.
-fn cancel_second_set<T: Tables>(tables: &mut T) -> Outcome {
+fn cancel_second_set<T: Tables>(rt: &impl Abort, tables: &mut T) -> Outcome {
     let cancelled = CancelledSet {
         session: 7000001,
         set: 700000102,
         live: 1,
         passed: 1,
     };
-    on_set(
-        tables,
-        700000102,
-        Action::CancelSet,
-        &Change::CancelSet(cancelled),
-    )
+    let change = Change::CancelSet(cancelled);
+    on_set(rt, tables, 700000102, Action::CancelSet, change)
 }
 
-/// The object of a kind that a JSON text is.
-fn object_of(alloc: Global, kind: Kind, text: &str) -> Option<Object>
-    ensures { IfSome result (λ object. object.kind ≡ kind) }
+/// The object of a kind.
+fn object_of(rt: &impl Abort, alloc: Global, kind: Kind) -> Object
+    ensures { result.kind ≡ kind }
 {
-    let Ok(value) = body_value(alloc, text.as_bytes()) else {
-        return None;
-    };
-    read_object(alloc, kind, &value).ok()
+    let value = body_value(alloc, text_of(kind).as_bytes()).ok();
+    let value = value.expect(rt, "a value");
+    match read_object(alloc, kind, &value) {
+        Ok(object) => object,
+        Err(_) => panic!(rt; "no object"),
+    }
 }
 
 /// The text of the object of a kind.
@@ -291,33 +360,26 @@ fn request_of(kind: Kind) -> Action
 }
 
 /// Adds a request of account 7 for the registration of the object of a kind.
-fn ask_for<T: Tables>(alloc: Global, tables: &mut T, kind: Kind, number: u64) -> Outcome {
+fn ask_for<T: Tables>(
+    rt: &impl Abort,
+    alloc: Global,
+    tables: &mut T,
+    kind: Kind,
+    number: u64,
+) -> Outcome {
     if number / 1000000 != 7 {
-        return None;
+        panic!(rt; "no request of account 7");
     }
-    let Some(object) = object_of(alloc, kind, text_of(kind)) else {
-        return None;
-    };
     let request = NewRequest {
         number,
         account: 7,
-        object,
+        object: object_of(rt, alloc, kind),
     };
-    on_account(tables, 7, request_of(kind), &Change::NewRequest(request))
-}
-
-/// Approves a request, with a number for what it gives.
-fn approve<T: Tables>(tables: &mut T, request: u64, approved: u64) -> Result<(), StoreFault> {
-    tables.order(&OrderChange::Approve(Approval { request, approved }))
-}
-
-/// Rejects a request.
-fn reject<T: Tables>(tables: &mut T, request: u64) -> Result<(), StoreFault> {
-    tables.order(&OrderChange::Reject(request))
+    on_account(rt, tables, 7, request_of(kind), Change::NewRequest(request))
 }
 
 /// Asks for the certification of the first session of account 7, by its first request.
-fn certify<T: Tables>(tables: &mut T) -> Outcome {
+fn certify<T: Tables>(rt: &impl Abort, tables: &mut T) -> Outcome {
     let request = NewCertification {
         number: 7000001,
         account: 7,
@@ -327,145 +389,91 @@ fn certify<T: Tables>(tables: &mut T) -> Outcome {
             session: 7000001,
         },
     };
-    on_session(tables, Action::Certify, &Change::Certify(request))
+    on_session(rt, tables, Action::Certify, Change::Certify(request))
 }
 
-/// Puts a reviewer of the first session of account 7 in.
-fn add_reviewer<T: Tables>(tables: &mut T, account: u16) -> Outcome {
-    let reviewer = ReviewerRow {
+/// A reviewer of that session.
+fn reviewer(account: u16) -> ReviewerRow
+    ensures { result ≡ record { session = 7000001; account = account } }
+{
+    ReviewerRow {
         session: 7000001,
         account,
-    };
-    on_session(tables, Action::AddReviewer, &Change::AddReviewer(reviewer))
+    }
+}
+
+/// Puts a reviewer of that session in.
+fn add_reviewer<T: Tables>(rt: &impl Abort, tables: &mut T, account: u16) -> Outcome {
+    let change = Change::AddReviewer(reviewer(account));
+    on_session(rt, tables, Action::AddReviewer, change)
 }
 
 /// Takes a reviewer of that session out.
 #[tactic(auto, unfolding(acvp_policy::specs::Decision::granted))]
-fn remove_reviewer<T: Tables>(tables: &mut T, account: u16) -> Outcome {
+fn remove_reviewer<T: Tables>(rt: &impl Abort, tables: &mut T, account: u16) -> Outcome {
     let subject = Subject::Reviewer(ReviewerSubject {
         session: 7000001,
         reviewer: u64::from(account),
         found: Some(open_session()),
     });
-    let reviewer = ReviewerRow {
-        session: 7000001,
-        account,
-    };
-    applied(
-        tables,
-        Action::RemoveReviewer,
-        &facts(7, Some(7000001), subject),
-        &Change::RemoveReviewer(reviewer),
-    )
+    let facts = facts(7, Some(7000001), subject);
+    let change = Change::RemoveReviewer(reviewer(account));
+    applied(rt, tables, Action::RemoveReviewer, &facts, change)
 }
 
-/// The word for what came of a call of the tables.
-fn call_word(call: Result<(), StoreFault>) -> &'static str {
-    match call {
-        Ok(()) => "made",
-        Err(fault) => fault_word(fault),
+/// An operator's order.
+fn order_of(rt: &impl Abort, made: Made, of: Of) -> OrderChange {
+    match made {
+        Made::Adds => OrderChange::AddAccount(NewAccount {
+            account: account(rt, of.first),
+            secret: SECRET,
+        }),
+        Made::Disables => OrderChange::DisableAccount(account(rt, of.first)),
+        Made::Approves => OrderChange::Approve(Approval {
+            request: of.first,
+            approved: of.second,
+        }),
+        _ => OrderChange::Reject(of.first),
     }
 }
 
-/// The word for what came of a change.
-fn word_of(outcome: Outcome) -> &'static str {
-    match outcome {
-        Some(call) => call_word(call),
-        None => "not tried",
-    }
-}
-
-/// The word for a fault.
-pub(crate) fn fault_word(fault: StoreFault) -> &'static str {
-    match fault {
-        StoreFault::Refused => "refused",
-        StoreFault::Memory => "out of memory",
-    }
-}
-
-/// Gives an operator's order by its name; none where there is no order of this name.
-fn order<T: Tables>(rt: &impl Abort, tables: &mut T, name: &str, of: &str) -> Option<&'static str> {
-    match name {
-        "adds" => Some(call_word(add_account(tables, account_in(rt, of)))),
-        "disables" => Some(call_word(disable_account(tables, account_in(rt, of)))),
-        "approves" => {
-            let (request, approved) = cut(of);
-            let (request, approved) = (number(rt, request), number(rt, approved));
-            Some(call_word(approve(tables, request, approved)))
-        }
-        "rejects" => Some(call_word(reject(tables, number(rt, of)))),
-        _ => None,
-    }
-}
-
-/// Changes what an account has, by the change's name; none where there is no change of this name.
-fn of_account<T: Tables>(
+/// Changes what an account has, or the rows of its first session.
+fn outcome_of<T: Tables>(
     rt: &impl Abort,
     alloc: Global,
     tables: &mut T,
-    name: &str,
-    of: &str,
-) -> Option<&'static str> {
-    match name {
-        "logs_in" => {
-            let (account, step) = cut(of);
-            let (account, step) = (account_in(rt, account), number(rt, step));
-            Some(word_of(use_step(tables, account, step)))
+    made: Made,
+    of: Of,
+) -> Outcome {
+    match made {
+        Made::LogsIn => use_step(rt, tables, account(rt, of.first), of.second),
+        Made::Begins => add_session(rt, alloc, tables, of.first),
+        Made::Asks => ask_for(rt, alloc, tables, kind_in(rt, of), of.first),
+        Made::Passes => keep_answer(rt, alloc, tables, of.first, Verdict::Passed, of.second),
+        Made::Fails => keep_answer(rt, alloc, tables, of.first, Verdict::Fail, of.second),
+        Made::CancelsSecondSet => cancel_second_set(rt, tables),
+        Made::CancelsSession => {
+            let change = Change::CancelSession(7000001);
+            on_session(rt, tables, Action::CancelSession, change)
         }
-        "begins" => Some(word_of(add_session(alloc, tables, number(rt, of)))),
-        "asks" => {
-            let (kind, of) = cut(of);
-            let (kind, of) = (kind_of(rt, kind), number(rt, of));
-            Some(word_of(ask_for(alloc, tables, kind, of)))
-        }
-        _ => None,
+        Made::Certifies => certify(rt, tables),
+        Made::PutsIn => add_reviewer(rt, tables, account(rt, of.first)),
+        Made::TakesOut => remove_reviewer(rt, tables, account(rt, of.first)),
+        _ => tables.order(&order_of(rt, made, of)),
     }
 }
 
-/// The same of the first session of account 7 and of its sets.
-fn of_session<T: Tables>(
-    rt: &impl Abort,
-    alloc: Global,
-    tables: &mut T,
-    name: &str,
-    of: &str,
-) -> Option<&'static str> {
-    match name {
-        "passes" => {
-            let (set, passed) = cut(of);
-            let (set, passed) = (number(rt, set), number(rt, passed));
-            let outcome = keep_answer(alloc, tables, set, Verdict::Passed, passed);
-            Some(word_of(outcome))
-        }
-        "fails" => {
-            let (set, passed) = cut(of);
-            let (set, passed) = (number(rt, set), number(rt, passed));
-            let outcome = keep_answer(alloc, tables, set, Verdict::Fail, passed);
-            Some(word_of(outcome))
-        }
-        "cancels_second_set" => Some(word_of(cancel_second_set(tables))),
-        "cancels_session" => Some(word_of(cancel_session(tables))),
-        "certifies" => Some(word_of(certify(tables))),
-        "puts_in" => Some(word_of(add_reviewer(tables, account_in(rt, of)))),
-        "takes_out" => Some(word_of(remove_reviewer(tables, account_in(rt, of)))),
-        _ => None,
-    }
-}
-
-/// Makes a change by its name, and gives the word for what came of it: `made`, that for a fault, or `not tried` where
-/// it did not come to the tables; none where there is no change of this name.
+/// Makes a change by its name, and writes what came of it: `made`, or the word for a fault.
 pub(crate) fn change<T: Tables>(
     rt: &impl Abort,
     alloc: Global,
+    text: &mut String,
     tables: &mut T,
-    name: &str,
-    of: &str,
-) -> Option<&'static str> {
-    if let Some(word) = order(rt, tables, name, of) {
-        return Some(word);
+    (name, of): (&str, Of),
+) {
+    let made = change_named(name).expect(rt, "a step of this name");
+    match outcome_of(rt, alloc, tables, made, of) {
+        Ok(()) => put_word(rt, text, "made"),
+        Err(fault) => put_fault(rt, text, fault),
     }
-    if let Some(word) = of_account(rt, alloc, tables, name, of) {
-        return Some(word);
-    }
-    of_session(rt, alloc, tables, name, of)
 }

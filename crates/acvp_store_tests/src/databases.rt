@@ -2,67 +2,134 @@
 //! nothing. What is stored is read back by statements that `acvp_store` doesn't have.
 //!
 //! The tables of a database are handed to what is generic over tables in one place alone, `takes_over`, since each such
-//! place is dear to prove. So the tests are deeds in turn, each with its lines: `creates`, `adopts` and `migrates` take
-//! steps (`steps.rt`) over the tables that come of the database, and hand it back; `isn't created`, `isn't adopted` and
-//! `isn't migrated` say that it is handed back as it was, and why; `runs` and `fails` run statements; and `gives` has
-//! the numbers that statements give.
+//! place is dear to prove. So the tests are deeds in turn, over one database.
 
 use crate::earlier_schemas::THIRD_SCHEMA_BESIDE_THE_FIRST;
-use crate::steps::takes;
-use crate::words::cut;
+use crate::steps::takes_both;
+use crate::words::{cut, is_so};
 use acvp_store::{AdoptFault, SqlTables, adopt, create, migrate};
 use acvp_tables::StoreFault;
-use sqlite::{Connection, Error, MemStore, params};
+use sqlite::{Connection, Error, MemStore, Row, params};
 use std::alloc::Global;
 use std::process::Abort;
 
-/// A deed by its name, its lines, and further lines.
-pub(crate) type Deed = (&'static str, &'static str, &'static str);
+/// How a database comes to its tables.
+#[derive(Clone, Copy)]
+pub(crate) enum Way {
+    Create,
+    Adopt,
+    Migrate,
+}
+
+/// What is done with a database.
+#[derive(Clone, Copy)]
+pub(crate) enum Deed {
+    /// Its tables are made or taken over, steps and further ones are taken over them (`steps.rt`), and it is handed
+    /// back.
+    Takes(Way, &'static str, &'static str),
+
+    /// It is handed back as it was, since it has tables, or since it is no store of a known schema.
+    IsHandedBack(Way),
+
+    /// Statements are run.
+    Runs(&'static str),
+
+    /// Statements fail.
+    Fails(&'static str),
+
+    /// Statements give the numbers that they stand behind.
+    Gives(&'static str),
+}
 
 /// Whether a statement is run.
 fn is_run(connection: &mut Connection<MemStore>, text: &str) -> bool {
     connection.execute(text, params![]).is_ok()
 }
 
-/// What a statement that gives one whole number gives.
-fn number_by(connection: &mut Connection<MemStore>, text: &str) -> Option<i64> {
-    let given: Result<i64, Error> = match connection.query_row(text, params![]) {
-        Ok(row) => row.get(0),
-        Err(error) => Err(error),
-    };
-    given.ok()
+/// The whole number that a row begins with.
+fn number_in(row: &Row) -> Option<i64> {
+    let number: Result<i64, Error> = row.get(0);
+    number.ok()
 }
 
-/// That each statement gives the number that it stands behind.
-fn gives(rt: &impl Abort, connection: &mut Connection<MemStore>, lines: &str) {
+/// What a statement that gives one whole number gives.
+fn number_by(connection: &mut Connection<MemStore>, text: &str) -> Option<i64> {
+    match connection.query_row(text, params![]) {
+        Ok(row) => number_in(&row),
+        Err(_) => None,
+    }
+}
+
+/// Whether a statement gives the number that it stands behind.
+fn is_given(rt: &impl Abort, connection: &mut Connection<MemStore>, line: &str) -> bool {
+    let (wanted, text) = cut(line);
+    let wanted = wanted.parse::<i64>().ok().expect(rt, "a number");
+    number_by(connection, text) == Some(wanted)
+}
+
+/// Runs a statement, which comes to what the deed says.
+fn states(rt: &impl Abort, connection: &mut Connection<MemStore>, deed: Deed, line: &str) {
+    let holds = match deed {
+        Deed::Runs(_) => is_run(connection, line),
+        Deed::Fails(_) => !is_run(connection, line),
+        _ => is_given(rt, connection, line),
+    };
+    is_so(rt, holds, line);
+}
+
+/// Runs the statement of each line.
+fn states_all(rt: &impl Abort, connection: &mut Connection<MemStore>, deed: Deed, lines: &str) {
     for line in lines.lines() {
-        let (wanted, text) = cut(line);
-        let wanted = wanted.parse::<i64>().ok();
-        assert!(rt; wanted.is_some(), "a number: {line}");
-        assert_eq!(rt; number_by(connection, text), wanted, "{text}");
+        states(rt, connection, deed, line);
+    }
+}
+
+/// The tables of a database, or it again, and whether it is no new database or no store of a known schema.
+type Answer = Result<SqlTables<MemStore>, (Connection<MemStore>, bool)>;
+
+/// Makes the tables of a database.
+fn created(alloc: Global, connection: Connection<MemStore>) -> Answer {
+    match create(alloc, connection) {
+        Ok(tables) => Ok(tables),
+        Err((connection, fault)) => Err((connection, matches!(fault, StoreFault::Refused))),
+    }
+}
+
+/// Takes the tables of a database over.
+fn adopted(alloc: Global, connection: Connection<MemStore>) -> Answer {
+    match adopt(alloc, connection) {
+        Ok(tables) => Ok(tables),
+        Err((connection, fault)) => Err((connection, matches!(fault, AdoptFault::Schema))),
+    }
+}
+
+/// The same of an earlier schema.
+fn migrated(alloc: Global, connection: Connection<MemStore>) -> Answer {
+    match migrate(alloc, connection) {
+        Ok(tables) => Ok(tables),
+        Err((connection, fault)) => Err((connection, matches!(fault, AdoptFault::Schema))),
+    }
+}
+
+/// Makes the tables of a database, or takes them over.
+fn answer_of(alloc: Global, connection: Connection<MemStore>, way: Way) -> Answer {
+    match way {
+        Way::Create => created(alloc, connection),
+        Way::Adopt => adopted(alloc, connection),
+        Way::Migrate => migrated(alloc, connection),
     }
 }
 
 /// The tables that are made in a database, or that come of taking it over.
-fn tables_of(
+pub(crate) fn tables_of(
     rt: &impl Abort,
     alloc: Global,
     connection: Connection<MemStore>,
-    deed: &str,
+    way: Way,
 ) -> SqlTables<MemStore> {
-    match deed {
-        "creates" => match create(alloc, connection) {
-            Ok(tables) => tables,
-            Err(_) => panic!(rt; "not created"),
-        },
-        "adopts" => match adopt(alloc, connection) {
-            Ok(tables) => tables,
-            Err(_) => panic!(rt; "not adopted"),
-        },
-        _ => match migrate(alloc, connection) {
-            Ok(tables) => tables,
-            Err(_) => panic!(rt; "not migrated"),
-        },
+    match answer_of(alloc, connection, way) {
+        Ok(tables) => tables,
+        Err(_) => panic!(rt; "no tables"),
     }
 }
 
@@ -71,28 +138,12 @@ fn handed_back(
     rt: &impl Abort,
     alloc: Global,
     connection: Connection<MemStore>,
-    deed: &str,
+    way: Way,
 ) -> Connection<MemStore> {
-    match deed {
-        "isn't created" => match create(alloc, connection) {
-            Err((connection, StoreFault::Refused)) => connection,
-            _ => panic!(rt; "created, or another fault"),
-        },
-        "isn't adopted" => match adopt(alloc, connection) {
-            Err((connection, AdoptFault::Schema)) => connection,
-            _ => panic!(rt; "adopted, or another fault"),
-        },
-        _ => match migrate(alloc, connection) {
-            Err((connection, AdoptFault::Schema)) => connection,
-            _ => panic!(rt; "migrated, or another fault"),
-        },
-    }
-}
-
-/// Runs statements, each of which is run or fails.
-fn runs(rt: &impl Abort, connection: &mut Connection<MemStore>, lines: &str, wanted: bool) {
-    for line in lines.lines() {
-        assert!(rt; is_run(connection, line) == wanted, "{line}");
+    match answer_of(alloc, connection, way) {
+        Err((connection, true)) => connection,
+        Err(_) => panic!(rt; "another fault"),
+        Ok(_) => panic!(rt; "not handed back"),
     }
 }
 
@@ -101,25 +152,13 @@ fn takes_over(
     rt: &impl Abort,
     alloc: Global,
     connection: Connection<MemStore>,
-    deed: Deed,
+    way: Way,
+    steps: &str,
+    further: &str,
 ) -> Connection<MemStore> {
-    let (name, lines, further) = deed;
-    let mut tables = tables_of(rt, alloc, connection, name);
-    takes(rt, alloc, &mut tables, lines);
-    takes(rt, alloc, &mut tables, further);
+    let mut tables = tables_of(rt, alloc, connection, way);
+    takes_both(rt, alloc, &mut tables, steps, further);
     tables.into_connection()
-}
-
-/// Has statements run, or asserts what they give.
-fn states(rt: &impl Abort, connection: &mut Connection<MemStore>, name: &str, lines: &str) {
-    match name {
-        "runs" => runs(rt, connection, lines, true),
-        "fails" => runs(rt, connection, lines, false),
-        _ => {
-            assert_eq!(rt; name, "gives");
-            gives(rt, connection, lines);
-        }
-    }
 }
 
 /// Does this with a database.
@@ -129,29 +168,49 @@ fn over(
     mut connection: Connection<MemStore>,
     deed: Deed,
 ) -> Connection<MemStore> {
-    let (name, lines, further) = deed;
-    match name {
-        "creates" | "adopts" | "migrates" => takes_over(rt, alloc, connection, deed),
-        "isn't created" | "isn't adopted" | "isn't migrated" => {
-            handed_back(rt, alloc, connection, name)
+    match deed {
+        Deed::Takes(way, steps, further) => {
+            takes_over(rt, alloc, connection, way, steps, further)
         }
-        _ => {
-            states(rt, &mut connection, name, lines);
-            states(rt, &mut connection, name, further);
+        Deed::IsHandedBack(way) => handed_back(rt, alloc, connection, way),
+        Deed::Runs(lines) | Deed::Fails(lines) | Deed::Gives(lines) => {
+            states_all(rt, &mut connection, deed, lines);
             connection
         }
     }
 }
 
-/// Does each of these, in turn, with a new database in memory in which statements were run.
-pub(crate) fn in_memory(rt: &impl Abort, alloc: Global, statements: &[&str], deeds: &[Deed]) {
-    let mut connection = Connection::open_in_memory(alloc).expect(rt, "a connection");
+/// A new database in memory in which statements were run.
+fn made_by(rt: &impl Abort, alloc: Global, statements: &[&str]) -> Connection<MemStore> {
+    let mut connection = Connection::open_in_memory(alloc).ok().expect(rt, "memory");
     for text in statements {
-        assert!(rt; is_run(&mut connection, text), "{text}");
+        is_so(rt, is_run(&mut connection, text), text);
     }
+    connection
+}
+
+/// A new database in memory, in which statements were run, after each of these deeds in turn.
+pub(crate) fn after(
+    rt: &impl Abort,
+    alloc: Global,
+    statements: &[&str],
+    deeds: &[Deed],
+) -> Connection<MemStore> {
+    let mut connection = made_by(rt, alloc, statements);
     for deed in deeds {
         connection = over(rt, alloc, connection, *deed);
     }
+    connection
+}
+
+/// Does each of these, in turn, with a new database in memory in which statements were run.
+pub(crate) fn in_memory(rt: &impl Abort, alloc: Global, statements: &[&str], deeds: &[Deed]) {
+    after(rt, alloc, statements, deeds);
+}
+
+/// The tables are made, and steps are taken over them.
+pub(crate) const fn creates(steps: &'static str) -> Deed {
+    Deed::Takes(Way::Create, steps, "")
 }
 
 /// What a new store holds.
@@ -167,7 +226,7 @@ fn a_new_store_names_its_schema(rt: HostRuntime) {
         &rt,
         rt.alloc(),
         &[],
-        &[("creates", "", ""), ("gives", NEW, "")],
+        &[Deed::Takes(Way::Create, "", ""), Deed::Gives(NEW)],
     );
 }
 
@@ -179,10 +238,11 @@ const EIGHT: &str =
     "INSERT INTO account (account, secret, enabled, last_step) VALUES (8, x'00', 1, NULL)";
 
 const REFERS: &[Deed] = &[
-    ("creates", "", ""),
-    ("fails", SESSION_OF_EIGHT, ""),
-    ("runs", EIGHT, SESSION_OF_EIGHT),
-    ("gives", "1 SELECT count(*) FROM session", ""),
+    Deed::Takes(Way::Create, "", ""),
+    Deed::Fails(SESSION_OF_EIGHT),
+    Deed::Runs(EIGHT),
+    Deed::Runs(SESSION_OF_EIGHT),
+    Deed::Gives("1 SELECT count(*) FROM session"),
 ];
 
 #[test]
@@ -194,11 +254,11 @@ fn a_session_refers_to_its_account(rt: HostRuntime) {
 const NAMES_THE_SECOND: &str = "UPDATE meta SET value = 2";
 
 const TAKEN_OVER: &[Deed] = &[
-    ("creates", "adds 7: made", ""),
-    ("isn't created", "", ""),
-    ("adopts", "account 7: 7 secret enabled -", ""),
-    ("runs", NAMES_THE_SECOND, ""),
-    ("isn't adopted", "", ""),
+    Deed::Takes(Way::Create, "adds 7: made", ""),
+    Deed::IsHandedBack(Way::Create),
+    Deed::Takes(Way::Adopt, "account 7: 7 secret enabled -", ""),
+    Deed::Runs(NAMES_THE_SECOND),
+    Deed::IsHandedBack(Way::Adopt),
 ];
 
 #[test]
@@ -207,10 +267,10 @@ fn a_store_is_taken_over_and_not_made_anew(rt: HostRuntime) {
 }
 
 const WITH_A_TABLE: &[Deed] = &[
-    ("runs", "CREATE TABLE other (n INTEGER) STRICT", ""),
-    ("isn't created", "", ""),
-    ("isn't adopted", "", ""),
-    ("gives", "0 SELECT count(*) FROM other", ""),
+    Deed::Runs("CREATE TABLE other (n INTEGER) STRICT"),
+    Deed::IsHandedBack(Way::Create),
+    Deed::IsHandedBack(Way::Adopt),
+    Deed::Gives("0 SELECT count(*) FROM other"),
 ];
 
 #[test]
@@ -223,13 +283,13 @@ const OLD_SET: &str =
     "INSERT INTO vset (vs, session, capability, cancelled, answers, verdicts, disposition) VALUES (700000101, 7000001, '', 0, NULL, NULL, NULL)";
 
 const BESIDE_OLD_SETS: &[Deed] = &[
-    ("adopts", "adds 7: made", "begins 7000001: made"),
-    ("runs", OLD_SET, ""),
-    ("isn't adopted", "", ""),
-    ("runs", "DELETE FROM vset", ""),
-    ("adopts", "sets_of 7000001: 700000101 700000102", ""),
-    ("runs", NAMES_THE_SECOND, ""),
-    ("isn't adopted", "", ""),
+    Deed::Takes(Way::Adopt, "adds 7: made", "begins 7000001: made"),
+    Deed::Runs(OLD_SET),
+    Deed::IsHandedBack(Way::Adopt),
+    Deed::Runs("DELETE FROM vset"),
+    Deed::Takes(Way::Adopt, "sets_of 7000001: 700000101 700000102", ""),
+    Deed::Runs(NAMES_THE_SECOND),
+    Deed::IsHandedBack(Way::Adopt),
 ];
 
 #[test]
@@ -265,7 +325,10 @@ fn what_is_taken_or_names_nothing_is_refused(rt: HostRuntime) {
         &rt,
         rt.alloc(),
         &[],
-        &[("creates", TAKEN, ""), ("gives", ONE_SESSION, "")],
+        &[
+            Deed::Takes(Way::Create, TAKEN, ""),
+            Deed::Gives(ONE_SESSION),
+        ],
     );
 }
 
@@ -290,7 +353,10 @@ fn an_approval_of_a_number_that_is_taken_changes_nothing(rt: HostRuntime) {
         &rt,
         rt.alloc(),
         &[],
-        &[("creates", APPROVED_TWICE, ""), ("gives", ONE_VENDOR, "")],
+        &[
+            Deed::Takes(Way::Create, APPROVED_TWICE, ""),
+            Deed::Gives(ONE_VENDOR),
+        ],
     );
 }
 
@@ -336,13 +402,7 @@ fn split(rt: &impl Abort, line: &'static str) -> (&'static str, &'static str) {
 }
 
 /// Meets a row that a statement makes stand for nothing, in tables that are made or taken over.
-fn meets(
-    rt: &impl Abort,
-    alloc: Global,
-    statements: &[&str],
-    name: &'static str,
-    line: &'static str,
-) {
+fn meets(rt: &impl Abort, alloc: Global, statements: &[&str], way: Way, line: &'static str) {
     let (before, rest) = split(rt, line);
     let (after, rest) = split(rt, rest);
     let (other, statement) = split(rt, rest);
@@ -351,23 +411,22 @@ fn meets(
         alloc,
         statements,
         &[
-            (name, FILLED, before),
-            ("runs", statement, ""),
-            ("adopts", after, other),
+            Deed::Takes(way, FILLED, before),
+            Deed::Runs(statement),
+            Deed::Takes(Way::Adopt, after, other),
         ],
     );
 }
 
+/// Meets the row of each line.
+fn meets_each(rt: &impl Abort, alloc: Global, statements: &[&str], way: Way) {
+    for line in STAND_FOR_NOTHING.lines() {
+        meets(rt, alloc, statements, way, line);
+    }
+}
+
 #[test]
 fn a_row_that_stands_for_nothing_is_refused_alone(rt: HostRuntime) {
-    for line in STAND_FOR_NOTHING.lines() {
-        meets(&rt, rt.alloc(), &[], "creates", line);
-        meets(
-            &rt,
-            rt.alloc(),
-            THIRD_SCHEMA_BESIDE_THE_FIRST,
-            "adopts",
-            line,
-        );
-    }
+    meets_each(&rt, rt.alloc(), &[], Way::Create);
+    meets_each(&rt, rt.alloc(), THIRD_SCHEMA_BESIDE_THE_FIRST, Way::Adopt);
 }

@@ -1,6 +1,6 @@
 //! A database of an earlier schema, made by statements, and what a migration makes of it, by numbers worked by hand.
 
-use crate::databases::{Deed, in_memory};
+use crate::databases::{Deed, Way, in_memory};
 use crate::earlier_schemas::{
     FIRST_SCHEMA, OLD_ANSWERED, OLD_UNANSWERED, SECOND_SCHEMA, SECOND_SCHEMA_BESIDE_THE_FIRST,
 };
@@ -25,10 +25,12 @@ fn stays_migrated(rt: &impl Abort, alloc: Global, statements: &[&str], epochs: &
         alloc,
         statements,
         &[
-            ("migrates", "", ""),
-            ("gives", AFTER, epochs),
-            ("migrates", "", ""),
-            ("gives", AFTER, epochs),
+            Deed::Takes(Way::Migrate, "", ""),
+            Deed::Gives(AFTER),
+            Deed::Gives(epochs),
+            Deed::Takes(Way::Migrate, "", ""),
+            Deed::Gives(AFTER),
+            Deed::Gives(epochs),
         ],
     );
 }
@@ -64,7 +66,12 @@ object Vendor 7000001: {"name":"V"}
 
 #[test]
 fn the_tables_that_were_moved_are_read_through_the_trait(rt: HostRuntime) {
-    in_memory(&rt, rt.alloc(), FIRST_SCHEMA, &[("migrates", MOVED, "")]);
+    in_memory(
+        &rt,
+        rt.alloc(),
+        FIRST_SCHEMA,
+        &[Deed::Takes(Way::Migrate, MOVED, "")],
+    );
 }
 
 /// A statement behind which a database names schema 2.
@@ -77,20 +84,21 @@ const OF_NEITHER: &str = "\
 ";
 
 const OTHERWISE_NAMED: &[Deed] = &[
-    ("runs", NAMES_THE_SECOND, ""),
-    ("isn't migrated", "", ""),
-    ("gives", OF_NEITHER, ""),
+    Deed::Runs(NAMES_THE_SECOND),
+    Deed::IsHandedBack(Way::Migrate),
+    Deed::Gives(OF_NEITHER),
 ];
 
 const WITH_OLD_SETS: &[Deed] = &[
-    ("runs", OLD_ANSWERED, OLD_UNANSWERED),
-    ("isn't migrated", "", ""),
-    ("gives", OF_NEITHER, ""),
+    Deed::Runs(OLD_ANSWERED),
+    Deed::Runs(OLD_UNANSWERED),
+    Deed::IsHandedBack(Way::Migrate),
+    Deed::Gives(OF_NEITHER),
 ];
 
 const WITH_ANOTHER_TABLE: &[Deed] = &[
-    ("runs", "CREATE TABLE other (x INTEGER) STRICT", ""),
-    ("isn't migrated", "", ""),
+    Deed::Runs("CREATE TABLE other (x INTEGER) STRICT"),
+    Deed::IsHandedBack(Way::Migrate),
 ];
 
 #[test]
@@ -107,5 +115,10 @@ fn what_is_of_no_known_schema_is_handed_back(rt: HostRuntime) {
 
 #[test]
 fn an_earlier_schema_is_not_adopted(rt: HostRuntime) {
-    in_memory(&rt, rt.alloc(), FIRST_SCHEMA, &[("isn't adopted", "", "")]);
+    in_memory(
+        &rt,
+        rt.alloc(),
+        FIRST_SCHEMA,
+        &[Deed::IsHandedBack(Way::Adopt)],
+    );
 }

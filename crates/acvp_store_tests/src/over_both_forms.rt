@@ -2,7 +2,7 @@
 //! is told by statements that `acvp_store` doesn't have.
 
 use crate::cases;
-use crate::databases::in_memory;
+use crate::databases::{Deed, Way, in_memory};
 use crate::earlier_schemas::THIRD_SCHEMA_BESIDE_THE_FIRST;
 use crate::steps::takes;
 use acvp_tables::ListTables;
@@ -16,13 +16,13 @@ fn over_both(rt: &impl Abort, alloc: Global, steps: &'static str, stored: &'stat
         rt,
         alloc,
         &[],
-        &[("creates", steps, ""), ("gives", stored, "")],
+        &[Deed::Takes(Way::Create, steps, ""), Deed::Gives(stored)],
     );
     in_memory(
         rt,
         alloc,
         THIRD_SCHEMA_BESIDE_THE_FIRST,
-        &[("adopts", steps, ""), ("gives", stored, "")],
+        &[Deed::Takes(Way::Adopt, steps, ""), Deed::Gives(stored)],
     );
 }
 

@@ -1,14 +1,124 @@
 //! What any form of the tables tells, as words. Each word stands behind a space, so that an empty list is an empty
 //! text. Where there is no row, the word is `none`, and a dash where a row lacks a number.
 
-use crate::changes::{SECRET, fault_word};
-use crate::words::{account_in, cut, kind_of, number};
+use crate::changes::SECRET;
+use crate::words::{Of, account, kind_in, rows_in};
 use acvp_answers::{Disposition, Verdict};
-use acvp_registry::Kind;
-use acvp_tables::{Counted, RequestPurpose, RequestStatus, StoreFault, Tables};
+use acvp_caps::{Algorithm, Capability};
+use acvp_registry::{Counts, Kind, Object};
+use acvp_tables::{
+    AccountRow, ObjectRow, RequestPurpose, RequestStatus, RequestSummary, SessionRow, SetSummary,
+    StoreFault, Tables,
+};
 use std::alloc::AllocError;
 use std::fmt::Write;
 use std::process::Abort;
+
+/// Reads.
+#[derive(Clone, Copy)]
+pub(crate) enum Read {
+    /// An account's number, whether its secret is that of every account here, whether it is enabled, and its last step.
+    Account,
+
+    /// How many sessions, vendors, modules, environments and requests an account has.
+    Counts,
+
+    /// How many rows of one kind an account has.
+    Count,
+
+    /// The numbers of an account's sessions on a page.
+    Sessions,
+
+    /// The numbers of account 7's vendors on a page.
+    Vendors,
+
+    /// The numbers of account 7's requests on a page.
+    Requests,
+
+    /// The greatest epoch of all sets.
+    GreatestEpoch,
+
+    /// A session's account, whether it is a sample, when it was created, and whether it is cancelled.
+    Session,
+
+    /// How many sets a session has, and how many have passed.
+    Counters,
+
+    /// The number of a session's last certification request.
+    CertifiedBy,
+
+    /// A set's session, its epoch, whether it is cancelled, and what its last answers came to.
+    Set,
+
+    /// The algorithm of a set's capability.
+    Algorithm,
+
+    /// The verdicts on a set's last answers.
+    Verdicts,
+
+    /// The numbers of a session's sets that aren't cancelled.
+    SetsOf,
+
+    /// The reviewers of a session.
+    ReviewersOf,
+
+    /// Whether an account is a reviewer of a session.
+    Reviewer,
+
+    /// The account of an object.
+    Owner,
+
+    /// The text of an object.
+    Object,
+
+    /// The vendor of a module.
+    VendorOf,
+
+    /// What was decided on a request.
+    Status,
+
+    /// The same, read alone.
+    Decision,
+
+    /// What a request asks to register or to certify: a kind, or a module, an environment and a session.
+    Subject,
+}
+
+/// The names of reads.
+const READS: &[(&str, Read)] = &[
+    ("account", Read::Account),
+    ("counts", Read::Counts),
+    ("count", Read::Count),
+    ("sessions", Read::Sessions),
+    ("vendors", Read::Vendors),
+    ("requests", Read::Requests),
+    ("greatest_epoch", Read::GreatestEpoch),
+    ("session", Read::Session),
+    ("counters", Read::Counters),
+    ("certified_by", Read::CertifiedBy),
+    ("set", Read::Set),
+    ("algorithm", Read::Algorithm),
+    ("verdicts", Read::Verdicts),
+    ("sets_of", Read::SetsOf),
+    ("reviewers_of", Read::ReviewersOf),
+    ("reviewer", Read::Reviewer),
+    ("owner", Read::Owner),
+    ("object", Read::Object),
+    ("vendor_of", Read::VendorOf),
+    ("status", Read::Status),
+    ("decision", Read::Decision),
+    ("subject", Read::Subject),
+];
+
+/// The read of this name, if there is one.
+pub(crate) fn read_named(name: &str) -> Option<Read> {
+    for (of, read) in READS {
+        if *of == name {
+            return Some(*read);
+        }
+    }
+    None
+}
 
 /// A word, or a number.
 #[derive(Clone, Copy)]
@@ -30,24 +140,126 @@ fn either(is_so: bool, word: &'static str, other: &'static str) -> Word {
     Word::Text(if is_so { word } else { other })
 }
 
+/// Writes a number behind a space.
+fn try_number(text: &mut String, number: u64) -> Result<(), AllocError> {
+    write!(text, " {number}")
+}
+
 /// Writes a word behind a space.
-fn put(text: &mut String, word: Word) -> Result<(), AllocError> {
-    match word {
-        Word::Text(word) => write!(text, " {word}"),
-        Word::Number(number) => write!(text, " {number}"),
-    }
+fn try_word(text: &mut String, word: &str) -> Result<(), AllocError> {
+    text.push_str(" ")?;
+    text.push_str(word)
+}
+
+/// Writes a number behind a space.
+pub(crate) fn put_number(rt: &impl Abort, text: &mut String, number: u64) {
+    try_number(text, number).ok().expect(rt, "memory");
+}
+
+/// Writes a word behind a space.
+pub(crate) fn put_word(rt: &impl Abort, text: &mut String, word: &str) {
+    try_word(text, word).ok().expect(rt, "memory");
 }
 
 /// Writes words.
-fn put_all(text: &mut String, words: &[Word]) -> Result<(), StoreFault> {
+fn put_all(rt: &impl Abort, text: &mut String, words: &[Word]) {
     for word in words {
-        put(text, *word)?;
+        match *word {
+            Word::Text(word) => put_word(rt, text, word),
+            Word::Number(number) => put_number(rt, text, number),
+        }
     }
-    Ok(())
 }
 
-/// That there is no row.
-const NONE: &[Word] = &[Word::Text("none")];
+/// Writes the word for a fault.
+pub(crate) fn put_fault(rt: &impl Abort, text: &mut String, fault: StoreFault) {
+    match fault {
+        StoreFault::Refused => put_word(rt, text, "refused"),
+        StoreFault::Memory => put_word(rt, text, "out of memory"),
+    }
+}
+
+/// What a read finds, if anything.
+type Found<R> = Result<Option<R>, StoreFault>;
+
+/// What a read lists.
+type Listed<R> = Result<Vec<R>, StoreFault>;
+
+/// Writes an account.
+fn put_account(rt: &impl Abort, text: &mut String, found: Found<AccountRow>) {
+    match found {
+        Ok(Some(row)) => put_all(
+            rt,
+            text,
+            &[
+                Word::Number(u64::from(row.number)),
+                either(row.secret == SECRET, "secret", "another"),
+                either(row.enabled, "enabled", "disabled"),
+                maybe(row.last_step),
+            ],
+        ),
+        Ok(None) => put_word(rt, text, "none"),
+        Err(fault) => put_fault(rt, text, fault),
+    }
+}
+
+/// Writes counts.
+fn put_counts(rt: &impl Abort, text: &mut String, counts: Result<Counts, StoreFault>) {
+    match counts {
+        Ok(counts) => put_all(
+            rt,
+            text,
+            &[
+                Word::Number(counts.sessions),
+                Word::Number(counts.vendors),
+                Word::Number(counts.modules),
+                Word::Number(counts.environments),
+                Word::Number(counts.requests),
+            ],
+        ),
+        Err(fault) => put_fault(rt, text, fault),
+    }
+}
+
+/// Writes a number, if there is one.
+fn put_found(rt: &impl Abort, text: &mut String, found: Found<u64>) {
+    match found {
+        Ok(Some(number)) => put_number(rt, text, number),
+        Ok(None) => put_word(rt, text, "none"),
+        Err(fault) => put_fault(rt, text, fault),
+    }
+}
+
+/// Writes what a read tells of a session.
+fn put_parts(rt: &impl Abort, text: &mut String, read: Read, row: SessionRow) {
+    match read {
+        Read::Counters => put_all(
+            rt,
+            text,
+            &[Word::Number(row.live), Word::Number(row.passed)],
+        ),
+        Read::CertifiedBy => put_all(rt, text, &[maybe(row.last_request)]),
+        _ => put_all(
+            rt,
+            text,
+            &[
+                Word::Number(u64::from(row.account)),
+                either(row.sample, "sample", "test"),
+                Word::Number(row.created),
+                either(row.cancelled, "cancelled", "open"),
+            ],
+        ),
+    }
+}
+
+/// Writes what a read tells of a session, if there is one.
+fn put_session(rt: &impl Abort, text: &mut String, read: Read, found: Found<SessionRow>) {
+    match found {
+        Ok(Some(row)) => put_parts(rt, text, read, row),
+        Ok(None) => put_word(rt, text, "none"),
+        Err(fault) => put_fault(rt, text, fault),
+    }
+}
 
 /// The word for what a set's last answers came to.
 fn disposition_word(disposition: Option<Disposition>) -> Word {
@@ -59,81 +271,11 @@ fn disposition_word(disposition: Option<Disposition>) -> Word {
     })
 }
 
-/// The word for a verdict.
-fn verdict_word(verdict: Verdict) -> Word {
-    Word::Text(match verdict {
-        Verdict::Passed => "passed",
-        Verdict::Fail => "fail",
-        Verdict::Missing => "missing",
-    })
-}
-
-/// The word for a kind.
-fn kind_word(kind: Kind) -> Word {
-    Word::Text(match kind {
-        Kind::Vendor => "Vendor",
-        Kind::Module => "Module",
-        Kind::Environment => "Environment",
-        Kind::Certification => "Certification",
-    })
-}
-
-/// An account's number, whether its secret is that of every account here, whether it is enabled, and its last step.
-fn account<T: Tables>(text: &mut String, tables: &mut T, number: u16) -> Result<(), StoreFault> {
-    match tables.account(number)? {
-        Some(row) => put_all(
-            text,
-            &[
-                Word::Number(u64::from(row.number)),
-                either(row.secret == SECRET, "secret", "another"),
-                either(row.enabled, "enabled", "disabled"),
-                maybe(row.last_step),
-            ],
-        ),
-        None => put_all(text, NONE),
-    }
-}
-
-/// A session's account, whether it is a sample, when it was created, and whether it is cancelled.
-fn session<T: Tables>(text: &mut String, tables: &mut T, number: u64) -> Result<(), StoreFault> {
-    match tables.session(number)? {
-        Some(row) => put_all(
-            text,
-            &[
-                Word::Number(u64::from(row.account)),
-                either(row.sample, "sample", "test"),
-                Word::Number(row.created),
-                either(row.cancelled, "cancelled", "open"),
-            ],
-        ),
-        None => put_all(text, NONE),
-    }
-}
-
-/// How many sets a session has, and how many have passed.
-fn counters<T: Tables>(text: &mut String, tables: &mut T, number: u64) -> Result<(), StoreFault> {
-    match tables.session(number)? {
-        Some(row) => put_all(text, &[Word::Number(row.live), Word::Number(row.passed)]),
-        None => put_all(text, NONE),
-    }
-}
-
-/// The number of a session's last certification request.
-fn certified_by<T: Tables>(
-    text: &mut String,
-    tables: &mut T,
-    number: u64,
-) -> Result<(), StoreFault> {
-    match tables.session(number)? {
-        Some(row) => put_all(text, &[maybe(row.last_request)]),
-        None => put_all(text, NONE),
-    }
-}
-
-/// A set's session, its epoch, whether it is cancelled, and what its last answers came to.
-fn set<T: Tables>(text: &mut String, tables: &mut T, number: u64) -> Result<(), StoreFault> {
-    match tables.set(number)? {
-        Some(row) => put_all(
+/// Writes a set.
+fn put_set(rt: &impl Abort, text: &mut String, found: Found<SetSummary>) {
+    match found {
+        Ok(Some(row)) => put_all(
+            rt,
             text,
             &[
                 Word::Number(row.session),
@@ -142,344 +284,276 @@ fn set<T: Tables>(text: &mut String, tables: &mut T, number: u64) -> Result<(), 
                 disposition_word(row.disposition),
             ],
         ),
-        None => put_all(text, NONE),
+        Ok(None) => put_word(rt, text, "none"),
+        Err(fault) => put_fault(rt, text, fault),
     }
 }
 
-/// The algorithm of a set's capability.
-fn algorithm<T: Tables>(text: &mut String, tables: &mut T, set: u64) -> Result<(), StoreFault> {
-    match tables.capability(set)? {
-        Some(capability) => {
-            let algorithm = capability.algorithm();
-            write!(text, " {algorithm:?}")?;
-            Ok(())
-        }
-        None => put_all(text, NONE),
+/// The word for an algorithm.
+fn algorithm_word(algorithm: Algorithm) -> &'static str {
+    match algorithm {
+        Algorithm::Sha2_256 => "Sha2_256",
+        Algorithm::Sha2_512 => "Sha2_512",
+        _ => "another algorithm",
     }
 }
 
-/// The verdicts on a set's last answers.
-fn verdicts<T: Tables>(text: &mut String, tables: &mut T, set: u64) -> Result<(), StoreFault> {
-    match tables.verdicts(set)? {
-        Some(verdicts) => {
+/// Writes the algorithm of a capability.
+fn put_algorithm(rt: &impl Abort, text: &mut String, found: Found<Capability>) {
+    match found {
+        Ok(Some(capability)) => put_word(rt, text, algorithm_word(capability.algorithm())),
+        Ok(None) => put_word(rt, text, "none"),
+        Err(fault) => put_fault(rt, text, fault),
+    }
+}
+
+/// The word for a verdict.
+fn verdict_word(verdict: Verdict) -> &'static str {
+    match verdict {
+        Verdict::Passed => "passed",
+        Verdict::Fail => "fail",
+        Verdict::Missing => "missing",
+    }
+}
+
+/// Writes verdicts.
+fn put_verdicts(rt: &impl Abort, text: &mut String, found: Found<Vec<Verdict>>) {
+    match found {
+        Ok(Some(verdicts)) => {
             for verdict in &verdicts {
-                put(text, verdict_word(*verdict))?;
+                put_word(rt, text, verdict_word(*verdict));
             }
-            Ok(())
         }
-        None => put_all(text, NONE),
+        Ok(None) => put_word(rt, text, "none"),
+        Err(fault) => put_fault(rt, text, fault),
     }
 }
 
-/// The numbers of a session's sets that aren't cancelled.
-fn sets_of<T: Tables>(text: &mut String, tables: &mut T, session: u64) -> Result<(), StoreFault> {
-    for set in tables.sets_of(session)? {
-        put(text, Word::Number(set.number))?;
-    }
-    Ok(())
-}
-
-/// The reviewers of a session.
-fn reviewers_of<T: Tables>(
-    text: &mut String,
-    tables: &mut T,
-    session: u64,
-) -> Result<(), StoreFault> {
-    for account in tables.reviewers_of(session)? {
-        put(text, Word::Number(u64::from(account)))?;
-    }
-    Ok(())
-}
-
-/// Whether an account is a reviewer of a session.
-fn reviewer<T: Tables>(
-    text: &mut String,
-    tables: &mut T,
-    session: u64,
-    account: u16,
-) -> Result<(), StoreFault> {
-    let is_reviewer = tables.is_reviewer(session, account)?;
-    put_all(text, &[either(is_reviewer, "reviewer", "none")])
-}
-
-/// A place in a list, and how many rows from there on.
-#[derive(Clone, Copy)]
-struct Page {
-    offset: u64,
-    limit: u64,
-}
-
-/// The numbers of an account's sessions on a page.
-fn sessions<T: Tables>(
-    text: &mut String,
-    tables: &mut T,
-    account: u16,
-    page: Page,
-) -> Result<(), StoreFault> {
-    for row in tables.sessions(account, page.offset, page.limit)? {
-        put(text, Word::Number(row.number))?;
-    }
-    Ok(())
-}
-
-/// The numbers of account 7's vendors on a page.
-fn vendors<T: Tables>(text: &mut String, tables: &mut T, page: Page) -> Result<(), StoreFault> {
-    for row in tables.objects(Kind::Vendor, 7, page.offset, page.limit)? {
-        put(text, Word::Number(row.number))?;
-    }
-    Ok(())
-}
-
-/// The numbers of account 7's requests on a page.
-fn requests<T: Tables>(text: &mut String, tables: &mut T, page: Page) -> Result<(), StoreFault> {
-    for row in tables.requests(7, page.offset, page.limit)? {
-        put(text, Word::Number(row.number))?;
-    }
-    Ok(())
-}
-
-/// The account of an object.
-fn owner<T: Tables>(
-    text: &mut String,
-    tables: &mut T,
-    kind: Kind,
-    number: u64,
-) -> Result<(), StoreFault> {
-    match tables.owner(kind, number)? {
-        Some(account) => put_all(text, &[Word::Number(u64::from(account))]),
-        None => put_all(text, NONE),
-    }
-}
-
-/// The text of an object.
-fn object<T: Tables>(
-    text: &mut String,
-    tables: &mut T,
-    kind: Kind,
-    number: u64,
-) -> Result<(), StoreFault> {
-    match tables.object(kind, number)? {
-        Some(row) => {
-            write!(text, " {}", row.object.text())?;
-            Ok(())
+/// Writes the numbers of sets.
+fn put_sets(rt: &impl Abort, text: &mut String, listed: Listed<SetSummary>) {
+    match listed {
+        Ok(sets) => {
+            for set in &sets {
+                put_number(rt, text, set.number);
+            }
         }
-        None => put_all(text, NONE),
+        Err(fault) => put_fault(rt, text, fault),
     }
 }
 
-/// The vendor of a module.
-fn vendor_of<T: Tables>(text: &mut String, tables: &mut T, number: u64) -> Result<(), StoreFault> {
-    match tables.object(Kind::Module, number)? {
-        Some(row) => {
-            put(text, maybe(row.object.vendor()))?;
-            Ok(())
+/// Writes the numbers of accounts.
+fn put_accounts(rt: &impl Abort, text: &mut String, listed: Listed<u16>) {
+    match listed {
+        Ok(accounts) => {
+            for account in &accounts {
+                put_number(rt, text, u64::from(*account));
+            }
         }
-        None => put_all(text, NONE),
+        Err(fault) => put_fault(rt, text, fault),
+    }
+}
+
+/// Writes the numbers of sessions.
+fn put_sessions(rt: &impl Abort, text: &mut String, listed: Listed<SessionRow>) {
+    match listed {
+        Ok(rows) => {
+            for row in &rows {
+                put_number(rt, text, row.number);
+            }
+        }
+        Err(fault) => put_fault(rt, text, fault),
+    }
+}
+
+/// Writes the numbers of objects.
+fn put_objects(rt: &impl Abort, text: &mut String, listed: Listed<ObjectRow>) {
+    match listed {
+        Ok(rows) => {
+            for row in &rows {
+                put_number(rt, text, row.number);
+            }
+        }
+        Err(fault) => put_fault(rt, text, fault),
+    }
+}
+
+/// Writes the numbers of requests.
+fn put_requests(rt: &impl Abort, text: &mut String, listed: Listed<RequestSummary>) {
+    match listed {
+        Ok(rows) => {
+            for row in &rows {
+                put_number(rt, text, row.number);
+            }
+        }
+        Err(fault) => put_fault(rt, text, fault),
+    }
+}
+
+/// Writes whether an account is a reviewer.
+fn put_reviewer(rt: &impl Abort, text: &mut String, is_reviewer: Result<bool, StoreFault>) {
+    match is_reviewer {
+        Ok(true) => put_word(rt, text, "reviewer"),
+        Ok(false) => put_word(rt, text, "none"),
+        Err(fault) => put_fault(rt, text, fault),
+    }
+}
+
+/// Writes the account of an object.
+fn put_owner(rt: &impl Abort, text: &mut String, found: Found<u16>) {
+    match found {
+        Ok(Some(account)) => put_number(rt, text, u64::from(account)),
+        Ok(None) => put_word(rt, text, "none"),
+        Err(fault) => put_fault(rt, text, fault),
+    }
+}
+
+/// Writes what a read tells of an object: the vendor of a module, or its text.
+fn put_object(rt: &impl Abort, text: &mut String, read: Read, object: &Object) {
+    match read {
+        Read::VendorOf => put_all(rt, text, &[maybe(object.vendor())]),
+        _ => put_word(rt, text, object.text()),
+    }
+}
+
+/// The same, if there is one.
+fn put_object_row(rt: &impl Abort, text: &mut String, read: Read, found: Found<ObjectRow>) {
+    match found {
+        Ok(Some(row)) => put_object(rt, text, read, &row.object),
+        Ok(None) => put_word(rt, text, "none"),
+        Err(fault) => put_fault(rt, text, fault),
     }
 }
 
 /// Writes what was decided, with the number that it gave.
-fn put_status(text: &mut String, status: Option<RequestStatus>) -> Result<(), StoreFault> {
+fn put_status(rt: &impl Abort, text: &mut String, status: RequestStatus) {
     match status {
-        Some(RequestStatus::Initial) => put_all(text, &[Word::Text("initial")]),
-        Some(RequestStatus::Approved(given)) => {
-            put_all(text, &[Word::Text("approved"), Word::Number(given)])
+        RequestStatus::Initial => put_word(rt, text, "initial"),
+        RequestStatus::Approved(given) => {
+            put_word(rt, text, "approved");
+            put_number(rt, text, given);
         }
-        Some(RequestStatus::Rejected) => put_all(text, &[Word::Text("rejected")]),
-        None => put_all(text, NONE),
+        RequestStatus::Rejected => put_word(rt, text, "rejected"),
     }
 }
 
-/// What was decided on a request.
-fn status<T: Tables>(text: &mut String, tables: &mut T, number: u64) -> Result<(), StoreFault> {
-    let status = match tables.request(number)? {
-        Some(request) => Some(request.status),
-        None => None,
-    };
-    put_status(text, status)
-}
-
-/// The same, read alone.
-fn decision<T: Tables>(text: &mut String, tables: &mut T, number: u64) -> Result<(), StoreFault> {
-    put_status(text, tables.request_status(number)?)
-}
-
-/// What a request asks to register or to certify: a kind, or a module, an environment and a session.
-fn subject<T: Tables>(text: &mut String, tables: &mut T, number: u64) -> Result<(), StoreFault> {
-    match tables.request(number)? {
-        Some(request) => match request.purpose {
-            RequestPurpose::Registration(kind) => put_all(text, &[kind_word(kind)]),
-            RequestPurpose::Certification(named) => put_all(
-                text,
-                &[
-                    Word::Number(named.module),
-                    Word::Number(named.environment),
-                    Word::Number(named.session),
-                ],
-            ),
-        },
-        None => put_all(text, NONE),
+/// Writes what was decided on a request, if there is one.
+fn put_decision(rt: &impl Abort, text: &mut String, found: Found<RequestStatus>) {
+    match found {
+        Ok(Some(status)) => put_status(rt, text, status),
+        Ok(None) => put_word(rt, text, "none"),
+        Err(fault) => put_fault(rt, text, fault),
     }
 }
 
-/// How many sessions, vendors, modules, environments and requests an account has.
-fn counts<T: Tables>(text: &mut String, tables: &mut T, account: u16) -> Result<(), StoreFault> {
-    let counts = tables.counts(account)?;
-    put_all(
-        text,
-        &[
-            Word::Number(counts.sessions),
-            Word::Number(counts.vendors),
-            Word::Number(counts.modules),
-            Word::Number(counts.environments),
-            Word::Number(counts.requests),
-        ],
-    )
-}
-
-/// The rows that are counted, by their name.
-fn counted_in(rt: &impl Abort, name: &str) -> Counted {
-    match name {
-        "Sessions" => Counted::Sessions,
-        "Requests" => Counted::Requests,
-        kind => Counted::Objects(kind_of(rt, kind)),
+/// The word for a kind.
+fn kind_word(kind: Kind) -> &'static str {
+    match kind {
+        Kind::Vendor => "Vendor",
+        Kind::Module => "Module",
+        Kind::Environment => "Environment",
+        Kind::Certification => "Certification",
     }
 }
 
-/// How many of these rows an account has.
-fn count<T: Tables>(
-    text: &mut String,
-    tables: &mut T,
-    account: u16,
-    of: Counted,
-) -> Result<(), StoreFault> {
-    let count = tables.count(account, of)?;
-    put_all(text, &[Word::Number(count)])
-}
-
-/// The greatest epoch of all sets.
-fn greatest_epoch<T: Tables>(text: &mut String, tables: &mut T) -> Result<(), StoreFault> {
-    match tables.greatest_epoch()? {
-        Some(epoch) => put_all(text, &[Word::Number(epoch)]),
-        None => put_all(text, NONE),
+/// Writes what a request asks for.
+fn put_purpose(rt: &impl Abort, text: &mut String, purpose: RequestPurpose) {
+    match purpose {
+        RequestPurpose::Registration(kind) => put_word(rt, text, kind_word(kind)),
+        RequestPurpose::Certification(named) => {
+            put_number(rt, text, named.module);
+            put_number(rt, text, named.environment);
+            put_number(rt, text, named.session);
+        }
     }
 }
 
-/// A page, by its words.
-fn page_in(rt: &impl Abort, words: &str) -> Page {
-    let (offset, limit) = cut(words);
-    Page {
-        offset: number(rt, offset),
-        limit: number(rt, limit),
+/// Writes what a read tells of a request, if there is one.
+fn put_request(rt: &impl Abort, text: &mut String, read: Read, found: Found<RequestSummary>) {
+    match (read, found) {
+        (Read::Subject, Ok(Some(request))) => put_purpose(rt, text, request.purpose),
+        (_, Ok(Some(request))) => put_status(rt, text, request.status),
+        (_, Ok(None)) => put_word(rt, text, "none"),
+        (_, Err(fault)) => put_fault(rt, text, fault),
     }
 }
 
-/// Writes what a read of an account tells, by the read's name; none where there is no read of this name.
-fn of_account<T: Tables>(
+/// Writes what a read of an account, or of all sets, tells.
+fn of_account<T: Tables>(rt: &impl Abort, text: &mut String, tables: &mut T, read: Read, of: Of) {
+    match read {
+        Read::Account => put_account(rt, text, tables.account(account(rt, of.first))),
+        Read::Counts => put_counts(rt, text, tables.counts(account(rt, of.first))),
+        Read::Count => {
+            let count = tables.count(account(rt, of.first), rows_in(rt, of));
+            put_found(rt, text, count.map(Some));
+        }
+        Read::Sessions => {
+            let listed = tables.sessions(account(rt, of.first), of.second, of.third);
+            put_sessions(rt, text, listed);
+        }
+        Read::Vendors => {
+            let listed = tables.objects(Kind::Vendor, 7, of.first, of.second);
+            put_objects(rt, text, listed);
+        }
+        Read::Requests => put_requests(rt, text, tables.requests(7, of.first, of.second)),
+        _ => put_found(rt, text, tables.greatest_epoch()),
+    }
+}
+
+/// Writes what a read of a session or of a set tells.
+fn of_session<T: Tables>(rt: &impl Abort, text: &mut String, tables: &mut T, read: Read, of: Of) {
+    match read {
+        Read::Set => put_set(rt, text, tables.set(of.first)),
+        Read::Algorithm => put_algorithm(rt, text, tables.capability(of.first)),
+        Read::Verdicts => put_verdicts(rt, text, tables.verdicts(of.first)),
+        Read::SetsOf => put_sets(rt, text, tables.sets_of(of.first)),
+        Read::ReviewersOf => put_accounts(rt, text, tables.reviewers_of(of.first)),
+        Read::Reviewer => {
+            let is_reviewer = tables.is_reviewer(of.first, account(rt, of.second));
+            put_reviewer(rt, text, is_reviewer);
+        }
+        _ => put_session(rt, text, read, tables.session(of.first)),
+    }
+}
+
+/// Writes what a read of an object or of a request tells.
+fn of_registry<T: Tables>(rt: &impl Abort, text: &mut String, tables: &mut T, read: Read, of: Of) {
+    match read {
+        Read::Owner => put_owner(rt, text, tables.owner(kind_in(rt, of), of.first)),
+        Read::Object => {
+            let found = tables.object(kind_in(rt, of), of.first);
+            put_object_row(rt, text, read, found);
+        }
+        Read::VendorOf => {
+            let found = tables.object(Kind::Module, of.first);
+            put_object_row(rt, text, read, found);
+        }
+        Read::Decision => put_decision(rt, text, tables.request_status(of.first)),
+        _ => put_request(rt, text, read, tables.request(of.first)),
+    }
+}
+
+/// Writes what a read tells, or the word for a fault.
+pub(crate) fn tells<T: Tables>(
     rt: &impl Abort,
     text: &mut String,
     tables: &mut T,
-    name: &str,
-    of: &str,
-) -> Option<Result<(), StoreFault>> {
-    match name {
-        "account" => Some(account(text, tables, account_in(rt, of))),
-        "counts" => Some(counts(text, tables, account_in(rt, of))),
-        "count" => {
-            let (rows, account) = cut(of);
-            Some(count(text, tables, account_in(rt, account), counted_in(rt, rows)))
-        }
-        "sessions" => {
-            let (account, page) = cut(of);
-            let (account, page) = (account_in(rt, account), page_in(rt, page));
-            Some(sessions(text, tables, account, page))
-        }
-        "vendors" => Some(vendors(text, tables, page_in(rt, of))),
-        "requests" => Some(requests(text, tables, page_in(rt, of))),
-        "greatest_epoch" => Some(greatest_epoch(text, tables)),
-        _ => None,
-    }
-}
-
-/// The same of a session or of a set.
-fn of_session<T: Tables>(
-    rt: &impl Abort,
-    text: &mut String,
-    tables: &mut T,
-    name: &str,
-    of: &str,
-) -> Option<Result<(), StoreFault>> {
-    match name {
-        "session" => Some(session(text, tables, number(rt, of))),
-        "counters" => Some(counters(text, tables, number(rt, of))),
-        "certified_by" => Some(certified_by(text, tables, number(rt, of))),
-        "set" => Some(set(text, tables, number(rt, of))),
-        "algorithm" => Some(algorithm(text, tables, number(rt, of))),
-        "verdicts" => Some(verdicts(text, tables, number(rt, of))),
-        "sets_of" => Some(sets_of(text, tables, number(rt, of))),
-        "reviewers_of" => Some(reviewers_of(text, tables, number(rt, of))),
-        "reviewer" => {
-            let (session, account) = cut(of);
-            let (session, account) = (number(rt, session), account_in(rt, account));
-            Some(reviewer(text, tables, session, account))
-        }
-        _ => None,
-    }
-}
-
-/// The same of an object or of a request.
-fn of_registry<T: Tables>(
-    rt: &impl Abort,
-    text: &mut String,
-    tables: &mut T,
-    name: &str,
-    of: &str,
-) -> Option<Result<(), StoreFault>> {
-    match name {
-        "owner" => {
-            let (kind, of) = cut(of);
-            Some(owner(text, tables, kind_of(rt, kind), number(rt, of)))
-        }
-        "object" => {
-            let (kind, of) = cut(of);
-            Some(object(text, tables, kind_of(rt, kind), number(rt, of)))
-        }
-        "vendor_of" => Some(vendor_of(text, tables, number(rt, of))),
-        "status" => Some(status(text, tables, number(rt, of))),
-        "decision" => Some(decision(text, tables, number(rt, of))),
-        "subject" => Some(subject(text, tables, number(rt, of))),
-        _ => None,
-    }
-}
-
-/// The same of any read.
-fn any<T: Tables>(
-    rt: &impl Abort,
-    text: &mut String,
-    tables: &mut T,
-    name: &str,
-    of: &str,
-) -> Option<Result<(), StoreFault>> {
-    if let Some(told) = of_account(rt, text, tables, name, of) {
-        return Some(told);
-    }
-    if let Some(told) = of_session(rt, text, tables, name, of) {
-        return Some(told);
-    }
-    of_registry(rt, text, tables, name, of)
-}
-
-/// Writes what a read tells, by its name. Gives the word for the fault where there is one.
-pub(crate) fn read<T: Tables>(
-    rt: &impl Abort,
-    text: &mut String,
-    tables: &mut T,
-    name: &str,
-    of: &str,
-) -> Option<&'static str> {
-    match any(rt, text, tables, name, of) {
-        Some(Ok(())) => None,
-        Some(Err(fault)) => Some(fault_word(fault)),
-        None => panic!(rt; "no step is named {name}"),
+    read: Read,
+    of: Of,
+) {
+    match read {
+        Read::Account
+        | Read::Counts
+        | Read::Count
+        | Read::Sessions
+        | Read::Vendors
+        | Read::Requests
+        | Read::GreatestEpoch => of_account(rt, text, tables, read, of),
+        Read::Owner
+        | Read::Object
+        | Read::VendorOf
+        | Read::Status
+        | Read::Decision
+        | Read::Subject => of_registry(rt, text, tables, read, of),
+        _ => of_session(rt, text, tables, read, of),
     }
 }
