@@ -1,6 +1,7 @@
 //! What the cache of vector sets holds, over lists.
 
 use crate::servers::{answer_in_bytes, desk_of_seven, paths};
+use crate::texts::{is_so, push};
 use acvp_desk::Desk;
 use acvp_http::{Reply, Routes};
 use acvp_tables::{ListTables, Tables};
@@ -54,14 +55,40 @@ fn new_server(rt: &impl Abort, alloc: Global) -> Server {
     }
 }
 
+/// Puts the number of a text's bytes behind bytes.
+fn put_length(rt: &impl Abort, alloc: Global, bytes: &mut Vec<u8>, text: &str) {
+    let length = text.len();
+    let length = format!(in alloc; "{length}").ok().expect(rt, "memory");
+    push(rt, bytes, length.as_bytes());
+}
+
+/// A request in bytes.
+fn request(rt: &impl Abort, alloc: Global, ask: &str, token: &str, body: &str) -> Vec<u8> {
+    let mut bytes = Vec::new(alloc);
+    push(rt, &mut bytes, ask.as_bytes());
+    push(
+        rt,
+        &mut bytes,
+        b" HTTP/1.1\r\nHost: h\r\nAuthorization: Bearer ",
+    );
+    push(rt, &mut bytes, token.as_bytes());
+    push(rt, &mut bytes, b"\r\nContent-Length: ");
+    put_length(rt, alloc, &mut bytes, body);
+    push(rt, &mut bytes, b"\r\n\r\n");
+    push(rt, &mut bytes, body.as_bytes());
+    bytes
+}
+
 /// What is answered at second 60.
 fn asks(rt: &impl Abort, server: &mut Server, ask: &str, token: &str, body: &str) -> Reply {
-    let length = body.len();
-    let text = format!(in server.alloc;
-        "{ask} HTTP/1.1\r\nHost: h\r\nAuthorization: Bearer {token}\r\nContent-Length: {length}\r\n\r\n{body}"
-    );
-    let text = text.ok().expect(rt, "memory");
-    answer_in_bytes(&server.routes, &mut server.desk, 60, text.as_bytes())
+    let bytes = request(rt, server.alloc, ask, token, body);
+    answer_in_bytes(&server.routes, &mut server.desk, 60, &bytes)
+}
+
+/// Asserts that an ask is accepted.
+fn accepts(rt: &impl Abort, server: &mut Server, ask: &str, token: &str, body: &str) {
+    let reply = asks(rt, server, ask, token, body);
+    is_so(rt, reply.bytes().starts_with(b"HTTP/1.1 200 OK\r\n"), ask);
 }
 
 /// Asserts that an ask is accepted, and how many sets the cache holds then.
@@ -73,49 +100,62 @@ fn is_accepted(
     body: &str,
     cached: usize,
 ) {
-    let reply = asks(rt, server, ask, token, body);
-    assert!(rt; reply.bytes().starts_with(b"HTTP/1.1 200 OK\r\n"), "{ask}");
-    assert_eq!(rt; server.desk.cached(), cached, "{ask}");
+    accepts(rt, server, ask, token, body);
+    is_so(rt, server.desk.cached() == cached, ask);
+}
+
+/// Asserts that an ask is refused by the rule of a word.
+fn refuses(rt: &impl Abort, server: &mut Server, ask: &str, token: &str, word: &str) {
+    let reply = asks(rt, server, ask, token, "");
+    is_so(rt, reply.bytes().ends_with(word.as_bytes()), ask);
 }
 
 /// Asserts that an ask is refused by the rule of a word, with as many sets in the cache as before.
 fn is_refused(rt: &impl Abort, server: &mut Server, ask: &str, token: &str, word: &str) {
     let before = server.desk.cached();
-    let reply = asks(rt, server, ask, token, "");
-    assert!(rt; reply.bytes().ends_with(word.as_bytes()), "{ask}");
-    assert_eq!(rt; server.desk.cached(), before, "{ask}");
+    refuses(rt, server, ask, token, word);
+    is_so(rt, server.desk.cached() == before, ask);
+}
+
+/// Puts a text behind another.
+fn put(rt: &impl Abort, text: &mut String, part: &str) {
+    text.push_str(part).ok().expect(rt, "memory");
+}
+
+/// The body that registers so many vector sets, which ends in this member, if any.
+fn registration(rt: &impl Abort, alloc: Global, count: usize, member: &str) -> String {
+    let mut body = String::new(alloc);
+    put(rt, &mut body, r#"[{"acvVersion":"1.0"},{"algorithms":["#);
+    for place in 0..count {
+        put(rt, &mut body, if place == 0 { "" } else { "," });
+        put(rt, &mut body, ITEM);
+    }
+    put(rt, &mut body, "]");
+    put(rt, &mut body, member);
+    put(rt, &mut body, "}]");
+    body
 }
 
 /// Registers a session with so many vector sets, which ends in this member, if any.
 fn registers(rt: &impl Abort, server: &mut Server, count: usize, member: &str) {
-    let mut body = String::new(server.alloc);
-    let start = r#"[{"acvVersion":"1.0"},{"algorithms":["#;
-    body.push_str(start).ok().expect(rt, "memory");
-    for place in 0..count {
-        let comma = if place == 0 { "" } else { "," };
-        body.push_str(comma).ok().expect(rt, "memory");
-        body.push_str(ITEM).ok().expect(rt, "memory");
-    }
-    body.push_str("]").ok().expect(rt, "memory");
-    body.push_str(member).ok().expect(rt, "memory");
-    body.push_str("}]").ok().expect(rt, "memory");
+    let body = registration(rt, server.alloc, count, member);
     let cached = server.desk.cached();
-    is_accepted(
-        rt,
-        server,
-        "POST /acvp/v1/testSessions",
-        OF_SEVEN,
-        &body,
-        cached,
-    );
+    let ask = "POST /acvp/v1/testSessions";
+    is_accepted(rt, server, ask, OF_SEVEN, &body, cached);
 }
+
+/// Reads of the sets of the first session, with how many sets the cache holds behind each.
+const READS: [(&str, usize); 4] = [
+    ("GET /acvp/v1/testSessions/7000001/vectorSets/700000101", 1),
+    ("GET /acvp/v1/testSessions/7000001/vectorSets/700000101", 1),
+    ("GET /acvp/v1/testSessions/7000001/vectorSets/700000102", 2),
+    ("GET /acvp/v1/testSessions/7000001/vectorSets/700000101", 2),
+];
 
 /// Asserts that reads of both sets of the first session are accepted, and each is held once.
 fn holds_once(rt: &impl Abort, server: &mut Server, token: &str) {
-    let first = "GET /acvp/v1/testSessions/7000001/vectorSets/700000101";
-    let second = "GET /acvp/v1/testSessions/7000001/vectorSets/700000102";
-    for (ask, cached) in [(first, 1), (first, 1), (second, 2), (first, 2)] {
-        is_accepted(rt, server, ask, token, "", cached);
+    for (ask, cached) in &READS {
+        is_accepted(rt, server, ask, token, "", *cached);
     }
 }
 
@@ -134,26 +174,46 @@ fn the_cache_holds_a_set_once_and_none_that_is_not_shown(rt: HostRuntime) {
 /// Answers to no test of the first vector set.
 const NO_ANSWERS: &str = r#"[{"acvVersion":"1.0"},{"testGroups":[],"vsId":700000101}]"#;
 
+/// What is asked of it, with bodies.
+const ASKS: [(&str, &str); 5] = [
+    (
+        "GET /acvp/v1/testSessions/7000001/vectorSets/700000101/expected",
+        "",
+    ),
+    (
+        "POST /acvp/v1/testSessions/7000001/vectorSets/700000101/results",
+        NO_ANSWERS,
+    ),
+    (
+        "GET /acvp/v1/testSessions/7000001/vectorSets/700000101/results",
+        "",
+    ),
+    (
+        "PUT /acvp/v1/testSessions/7000001/vectorSets/700000101/results",
+        NO_ANSWERS,
+    ),
+    ("GET /acvp/v1/testSessions/7000001/vectorSets/700000101", ""),
+];
+
 #[test]
 fn what_is_shown_and_graded_is_of_the_set_in_the_cache(rt: HostRuntime) {
     let mut server = new_server(&rt, rt.alloc());
     registers(&rt, &mut server, 1, r#","isSample":true"#);
     let (_, _, token) = SESSIONS[0];
-    let set = "/acvp/v1/testSessions/7000001/vectorSets/700000101";
-    for (method, path, body) in [
-        ("GET", "/expected", ""),
-        ("POST", "/results", NO_ANSWERS),
-        ("GET", "/results", ""),
-        ("PUT", "/results", NO_ANSWERS),
-        ("GET", "", ""),
-    ] {
-        let ask = format!(in server.alloc; "{method} {set}{path}");
-        let ask = ask.ok().expect(&rt, "memory");
-        is_accepted(&rt, &mut server, &ask, token, body, 1);
+    for (ask, body) in &ASKS {
+        is_accepted(&rt, &mut server, ask, token, body, 1);
     }
 }
 
-/// Reads the sets of a session up to this one. The cache takes each of them, up to 64.
+/// Reads a set of a session. The cache takes it, up to 64.
+fn reads_one(rt: &impl Abort, server: &mut Server, session: u64, set: u64, token: &str) {
+    let ask = format!(in server.alloc; "GET /acvp/v1/testSessions/{session}/vectorSets/{set}");
+    let ask = ask.ok().expect(rt, "memory");
+    let cached = server.desk.cached().saturating_add(1).min(64);
+    is_accepted(rt, server, &ask, token, "", cached);
+}
+
+/// Reads the sets of a session up to this one.
 fn reads(
     rt: &impl Abort,
     server: &mut Server,
@@ -161,10 +221,7 @@ fn reads(
     last: u64,
 ) {
     for set in first..=last {
-        let ask = format!(in server.alloc; "GET /acvp/v1/testSessions/{session}/vectorSets/{set}");
-        let ask = ask.ok().expect(rt, "memory");
-        let cached = server.desk.cached().saturating_add(1).min(64);
-        is_accepted(rt, server, &ask, token, "", cached);
+        reads_one(rt, server, session, set, token);
     }
 }
 

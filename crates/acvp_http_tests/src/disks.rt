@@ -46,8 +46,11 @@ pub(crate) enum Stop {
 /// Disks in memory, which may fail.
 pub(crate) type Disks = Files<Fuse<Memory>>;
 
+/// A store on them.
+pub(crate) type MemoryStore = FileStore<Fuse<Memory>>;
+
 /// A connection to the database on them.
-pub(crate) type MemoryFile = Connection<FileStore<Fuse<Memory>>>;
+pub(crate) type MemoryFile = Connection<MemoryStore>;
 
 /// A disk that holds these bytes, and fails behind so many calls.
 fn disk(rt: &impl Abort, alloc: Global, bytes: &[u8], calls: u64) -> Fuse<Memory> {
@@ -94,11 +97,6 @@ pub(crate) fn closed(connection: MemoryFile) -> Disks {
     }
 }
 
-/// The disks as they are: nothing that was committed is copied from the log any more.
-pub(crate) fn abandoned(connection: MemoryFile) -> Disks {
-    connection.into_store().close()
-}
-
 /// Whether a disk fails from now on.
 fn has_stopped(disk: &mut Fuse<Memory>) -> bool {
     !disk.may_be_used() || disk.len().is_err()
@@ -127,17 +125,54 @@ pub(crate) fn all_written(rt: &impl Abort, alloc: Global, files: &Disks) -> Held
     }
 }
 
-/// What the disks may hold when the machine comes back: of each all that was written, or what was synced alone.
-pub(crate) fn left_by_a_crash(rt: &impl Abort, alloc: Global, files: Disks) -> [Held; 4] {
+/// What was written on disks, and what was synced alone.
+#[derive(Drop)]
+pub(crate) struct Left {
+    all: Held,
+    synced: Held,
+}
+
+/// Whether the log and the database file hold what was synced alone, for all that a crash may leave of them.
+pub(crate) const OF_A_CRASH: [(bool, bool); 4] = [
+    (false, false),
+    (true, false),
+    (false, true),
+    (true, true),
+];
+
+impl Left {
+    /// What the disks hold when the machine comes back: of each all that was written, or what was synced alone.
+    pub(crate) fn held(
+        &self,
+        rt: &impl Abort,
+        alloc: Global,
+        (is_log_synced, is_database_synced): (bool, bool),
+    ) -> Held {
+        let log = if is_log_synced {
+            &self.synced
+        } else {
+            &self.all
+        };
+        let database = if is_database_synced {
+            &self.synced
+        } else {
+            &self.all
+        };
+        Held {
+            log: copied(rt, alloc, &log.log),
+            database: copied(rt, alloc, &database.database),
+        }
+    }
+}
+
+/// What is left of disks by a crash.
+pub(crate) fn left_by_a_crash(rt: &impl Abort, alloc: Global, files: Disks) -> Left {
     let mut files = files;
     let all = all_written(rt, alloc, &files);
     files.log.crash();
-    let without_log = all_written(rt, alloc, &files);
     files.db.crash();
-    let synced = all_written(rt, alloc, &files);
-    let without_database = Held {
-        log: copied(rt, alloc, &all.log),
-        database: copied(rt, alloc, &synced.database),
-    };
-    [all, without_log, without_database, synced]
+    Left {
+        all,
+        synced: all_written(rt, alloc, &files),
+    }
 }

@@ -3,9 +3,13 @@
 //! stop has after the same events, and what is put out is the same, byte for byte. So it is for a copy of what the first
 //! run left, and where the third run begins with such a copy: it is then that of a life without a second.
 
-use crate::disks::{Held, MemoryFile, Stop, abandoned, disks, left_by_a_crash, opened};
-use crate::stops::{RunKeys, Script, Work, acknowledges, after, happens, looked_at};
-use crate::texts::push;
+use crate::disks::{
+    Held, Left, MemoryFile, OF_A_CRASH, Stop, closed, disks, left_by_a_crash, opened,
+};
+use crate::stops::{
+    RunKeys, Script, Work, acknowledges, after, goes_on_over, looked_at, stops_over,
+};
+use crate::texts::{is_so, push};
 use acvp_store_tests::earlier_schemas::FIRST_SCHEMA;
 use std::alloc::Global;
 use std::ops::Range;
@@ -114,9 +118,9 @@ fn tells(
     connection: MemoryFile,
     work: Work<'_>,
 ) -> (MemoryFile, Told) {
-    let (connection, came) = happens(rt, alloc, connection, work);
-    assert_eq!(rt; came.done, 1);
-    let (connection, found) = happens(rt, alloc, connection, Work::IsRead);
+    let (connection, came) = goes_on_over(rt, alloc, connection, work);
+    is_so(rt, came.done == 1, "a store");
+    let (connection, found) = goes_on_over(rt, alloc, connection, Work::IsRead);
     let told = Told {
         output: came.bytes,
         rows: found.bytes,
@@ -124,27 +128,80 @@ fn tells(
     (connection, told)
 }
 
+/// Nothing that was put out, and no rows.
+fn nothing(alloc: Global) -> Told {
+    Told {
+        output: Vec::new(alloc),
+        rows: Vec::new(alloc),
+    }
+}
+
+/// Puts what is told of an event behind what was told before.
+fn put(rt: &impl Abort, all: &mut Vec<Told>, told: Told) {
+    all.push(told).ok().expect(rt, "memory");
+}
+
+/// Puts what an event puts out over a connection, and the rows behind it, behind what was told before.
+fn put_event(
+    rt: &impl Abort,
+    alloc: Global,
+    all: &mut Vec<Told>,
+    connection: MemoryFile,
+    place: usize,
+) -> MemoryFile {
+    let (connection, told) = tells(rt, alloc, connection, Work::PutsOut(event(rt, place)));
+    put(rt, all, told);
+    connection
+}
+
+/// Puts what the move of the tables and each event put out, and the rows behind each, behind what was told before.
+/// Nothing is told of the events that are left out.
+fn put_all(rt: &impl Abort, alloc: Global, all: &mut Vec<Told>, left_out: Range<usize>) {
+    let held = of_the_first_schema(rt, alloc);
+    let (mut connection, first) = tells(rt, alloc, connected(rt, alloc, &held), Work::Migrates);
+    put(rt, all, first);
+    for place in 0..EVENTS.len() {
+        if left_out.start <= place && place < left_out.end {
+            put(rt, all, nothing(alloc));
+        } else {
+            connection = put_event(rt, alloc, all, connection, place);
+        }
+    }
+    closed(connection);
+}
+
 /// What the move of the tables and each event put out, and the rows behind each, over one connection. Nothing is told of
 /// the events that are left out.
 fn without_stops(rt: &impl Abort, alloc: Global, left_out: Range<usize>) -> Vec<Told> {
-    let held = of_the_first_schema(rt, alloc);
-    let (mut connection, first) = tells(rt, alloc, connected(rt, alloc, &held), Work::Migrates);
     let mut all = Vec::new(alloc);
-    all.push(first).ok().expect(rt, "memory");
-    for place in 0..EVENTS.len() {
-        let after = if left_out.start <= place && place < left_out.end {
-            Told {
-                output: Vec::new(alloc),
-                rows: Vec::new(alloc),
-            }
-        } else {
-            let (next, after) = tells(rt, alloc, connection, Work::PutsOut(event(rt, place)));
-            connection = next;
-            after
-        };
-        all.push(after).ok().expect(rt, "memory");
-    }
+    put_all(rt, alloc, &mut all, left_out);
     all
+}
+
+/// Asserts the rows of what a crash leaves.
+fn has_rows(rt: &impl Abort, alloc: Global, held: &Held, wanted: &[u8]) {
+    let found = looked_at(rt, alloc, held);
+    is_so(rt, found.bytes.as_slice() == wanted, "rows");
+}
+
+/// Asserts the rows of all that a crash may leave.
+fn have_rows(rt: &impl Abort, alloc: Global, left: &Left, wanted: &[u8]) {
+    for synced in OF_A_CRASH {
+        has_rows(rt, alloc, &left.held(rt, alloc, synced), wanted);
+    }
+}
+
+/// What a crash leaves of a connection behind some work, which puts this out.
+fn crashes_behind(
+    rt: &impl Abort,
+    alloc: Global,
+    connection: MemoryFile,
+    work: Work<'_>,
+    wanted: &[u8],
+) -> Left {
+    let (files, came) = stops_over(rt, alloc, connection, work);
+    is_so(rt, came.bytes.as_slice() == wanted, "what is put out");
+    left_by_a_crash(rt, alloc, files)
 }
 
 /// What the machine finds again once it has stopped behind some work, whose log was never copied into the database
@@ -156,13 +213,10 @@ fn stops_behind(
     work: Work<'_>,
     wanted: &Told,
 ) -> Held {
-    let (connection, came) = happens(rt, alloc, connected(rt, alloc, held), work);
-    assert_eq!(rt; came.bytes, wanted.output);
-    let left = left_by_a_crash(rt, alloc, abandoned(connection));
-    for held in &left {
-        assert_eq!(rt; looked_at(rt, alloc, held).bytes, wanted.rows);
-    }
-    left[3].copied(rt, alloc)
+    let connection = connected(rt, alloc, held);
+    let left = crashes_behind(rt, alloc, connection, work, &wanted.output);
+    have_rows(rt, alloc, &left, &wanted.rows);
+    left.held(rt, alloc, (true, true))
 }
 
 /// The files after the events from a place on, up to another, with a stop behind each.
@@ -177,7 +231,7 @@ fn lives(
     let mut held = held;
     for place in first..last {
         let told = wanted.get(place.saturating_add(1)).expect(rt, "an event");
-        assert!(rt; acknowledges(&told.output));
+        is_so(rt, acknowledges(&told.output), "an event");
         held = stops_behind(rt, alloc, &held, Work::PutsOut(event(rt, place)), told);
     }
     held
@@ -242,20 +296,54 @@ fn put_told(rt: &impl Abort, bytes: &mut Vec<u8>, wanted: &[Told], first: usize,
     }
 }
 
+/// Asserts what events put out one by one, from a place on, up to another, and the rows behind them.
+fn is_told(
+    rt: &impl Abort,
+    alloc: Global,
+    told: &Told,
+    wanted: &[Told],
+    (first, last): (usize, usize),
+) {
+    let mut output = Vec::new(alloc);
+    put_told(rt, &mut output, wanted, first, last);
+    is_so(rt, told.output == output, "what a run puts out");
+    let behind = wanted.get(last).expect(rt, "a run");
+    is_so(rt, told.rows == behind.rows, "rows");
+}
+
+/// Asserts that a run from a place on, up to another, is its events one by one.
+fn runs_as(
+    rt: &impl Abort,
+    alloc: Global,
+    connection: MemoryFile,
+    wanted: &[Told],
+    (first, last): (usize, usize),
+) -> MemoryFile {
+    let (connection, told) = runs(rt, alloc, connection, first, last);
+    is_told(rt, alloc, &told, wanted, (first, last));
+    connection
+}
+
+/// Asserts it of each run, over one connection.
+fn run_as(rt: &impl Abort, alloc: Global, connection: MemoryFile, wanted: &[Told]) {
+    let mut connection = connection;
+    let mut first = 0usize;
+    for last in ENDS {
+        connection = runs_as(rt, alloc, connection, wanted, (first, last));
+        first = last;
+    }
+    closed(connection);
+}
+
+/// A connection to tables of schema 1 that were moved.
+fn moved(rt: &impl Abort, alloc: Global) -> MemoryFile {
+    let held = of_the_first_schema(rt, alloc);
+    tells(rt, alloc, connected(rt, alloc, &held), Work::Migrates).0
+}
+
 #[test]
 fn a_run_over_one_desk_is_its_events_one_by_one(rt: HostRuntime) {
     let alloc = rt.alloc();
     let wanted = without_stops(&rt, alloc, 0..0);
-    let held = of_the_first_schema(&rt, alloc);
-    let (mut connection, _) = tells(&rt, alloc, connected(&rt, alloc, &held), Work::Migrates);
-    let mut first = 0usize;
-    for last in ENDS {
-        let (next, came) = runs(&rt, alloc, connection, first, last);
-        connection = next;
-        let mut output = Vec::new(alloc);
-        put_told(&rt, &mut output, &wanted, first, last);
-        assert_eq!(rt; came.output, output);
-        assert_eq!(rt; came.rows, wanted.get(last).expect(&rt, "a run").rows);
-        first = last;
-    }
+    run_as(&rt, alloc, moved(&rt, alloc), &wanted);
 }

@@ -1,6 +1,6 @@
 //! The rows of a database, as text, by statements that the product doesn't have.
 
-use crate::texts::push;
+use crate::texts::{is_so, push};
 use sqlite::{Alter, Connection, Row};
 use std::alloc::Global;
 use std::process::Abort;
@@ -51,7 +51,7 @@ fn put<S: Alter>(
     match lines(connection, text) {
         Some(found) => put_lines(rt, all, &found),
         None => {
-            assert!(rt; !is_there, "{text}");
+            is_so(rt, !is_there, text);
             push(rt, all, b"not there\n");
         }
     }

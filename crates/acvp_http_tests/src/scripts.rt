@@ -3,10 +3,10 @@
 
 use crate::servers::{desk_over, keys, paths};
 use crate::streams::{FailsOnce, Narrow};
-use crate::texts::{ACCEPTED, joined};
+use crate::texts::{ACCEPTED, is_so, joined};
 use acvp_desk::Desk;
 use acvp_http::{Flagged, ScriptFault, run};
-use acvp_tables::{ListTables, Tables};
+use acvp_tables::{AccountRow, ListTables, Tables};
 use std::alloc::Global;
 use std::io::{ErrorKind, Read, Write};
 use std::process::Abort;
@@ -64,33 +64,47 @@ fn new_desk_of_lists(rt: &impl Abort, alloc: Global) -> Desk<ListTables> {
     desk_over(rt, alloc, keys(rt), ListTables::new(alloc))
 }
 
-/// Asserts that so many of the events have happened, and none behind them; second 59 is in step 1.
+/// Whether an account is what so many of the events made of it; second 59 is in step 1.
+fn is_after(account: AccountRow, count: usize) -> bool {
+    let last_step = if count < 2 { None } else { Some(1) };
+    0 < count && account.last_step == last_step && account.enabled == (count < 3)
+}
+
+/// Asserts that so many of the events have happened, and none behind them.
 fn have_happened(rt: &impl Abort, desk: Desk<ListTables>, count: usize) {
     let mut tables = desk.into_tables();
-    match tables.account(7).ok().expect(rt, "a look-up") {
-        None => {
-            assert_eq!(rt; count, 0);
-        }
-        Some(account) => {
-            let last_step = if count < 2 { None } else { Some(1) };
-            assert!(rt; 0 < count);
-            assert_eq!(rt; account.last_step, last_step);
-            assert_eq!(rt; account.enabled, count < 3);
-        }
-    }
+    let have_happened = match tables.account(7) {
+        Ok(Some(account)) => is_after(account, count),
+        Ok(None) => count == 0,
+        Err(_) => false,
+    };
+    is_so(rt, have_happened, "what has happened");
 }
 
 /// Runs the events out of a reader that fails at this place.
-fn ends_at(rt: &impl Abort, alloc: Global, script: &[u8], place: usize) {
-    let mut desk = new_desk_of_lists(rt, alloc);
+fn reads_up_to(
+    rt: &impl Abort,
+    alloc: Global,
+    desk: &mut Desk<ListTables>,
+    script: &[u8],
+    place: usize,
+) {
     let reader = FailsOnce {
         bytes: script,
         place,
         fault: Some(ErrorKind::ConnectionReset),
     };
-    let outcome = run_over(rt, alloc, &mut desk, reader, Vec::new(alloc));
-    assert_eq!(rt; outcome.answer, Err(ScriptFault::Read));
-    assert!(rt; outcome.has_read_fault && !outcome.has_write_fault);
+    let outcome = run_over(rt, alloc, desk, reader, Vec::new(alloc));
+    let is_read = matches!(outcome.answer, Err(ScriptFault::Read));
+    is_so(rt, is_read, "a fault of a reader");
+    let has_failed = outcome.has_read_fault && !outcome.has_write_fault;
+    is_so(rt, has_failed, "a reader alone");
+}
+
+/// Asserts what has happened once a reader has failed at this place.
+fn ends_at(rt: &impl Abort, alloc: Global, script: &[u8], place: usize) {
+    let mut desk = new_desk_of_lists(rt, alloc);
+    reads_up_to(rt, alloc, &mut desk, script, place);
     have_happened(rt, desk, end_within(EVENTS, place));
 }
 
@@ -102,28 +116,74 @@ fn an_event_that_is_not_read_whole_has_not_happened(rt: HostRuntime) {
     }
 }
 
-/// Runs the events, whose answers these are, into a writer that has this room for them.
-fn ends_with_room(rt: &impl Abort, alloc: Global, answers: &[&[u8]], room: usize) {
-    let mut desk = new_desk_of_lists(rt, alloc);
-    let script = joined(rt, alloc, EVENTS);
+/// Runs the events into a writer that has this room for their answers.
+fn writes_up_to(
+    rt: &impl Abort,
+    alloc: Global,
+    desk: &mut Desk<ListTables>,
+    script: &[u8],
+    room: usize,
+) {
     let writer = Narrow {
         held: Vec::new(alloc),
         room,
     };
-    let outcome = run_over(rt, alloc, &mut desk, script.as_slice(), writer);
-    assert_eq!(rt; outcome.answer, Err(ScriptFault::Write));
-    assert!(rt; outcome.has_write_fault && !outcome.has_read_fault);
-    have_happened(rt, desk, end_within(answers, room).saturating_add(1));
+    let outcome = run_over(rt, alloc, desk, script, writer);
+    let is_written = matches!(outcome.answer, Err(ScriptFault::Write));
+    is_so(rt, is_written, "a fault of a writer");
+    let has_failed = outcome.has_write_fault && !outcome.has_read_fault;
+    is_so(rt, has_failed, "a writer alone");
+}
+
+/// The answers to the events.
+const ANSWERS: [&[&[u8]]; 3] = [
+    &[b"order done\n"],
+    &[b"reply 292\n", ACCEPTED, b"\n"],
+    &[b"order done\n"],
+];
+
+/// How many bytes these parts have.
+fn length_of(parts: &[&[u8]]) -> usize {
+    let mut length = 0usize;
+    for part in parts {
+        length = length.saturating_add(part.len());
+    }
+    length
+}
+
+/// How many of the answers end within so many bytes.
+fn answered_within(bytes: usize) -> usize {
+    let mut left = bytes;
+    for (place, parts) in ANSWERS.iter().enumerate() {
+        let length = length_of(parts);
+        if left < length {
+            return place;
+        }
+        left = left.saturating_sub(length);
+    }
+    ANSWERS.len()
+}
+
+/// Asserts what has happened once a writer has had this room.
+fn ends_with_room(rt: &impl Abort, alloc: Global, script: &[u8], room: usize) {
+    let mut desk = new_desk_of_lists(rt, alloc);
+    writes_up_to(rt, alloc, &mut desk, script, room);
+    have_happened(rt, desk, answered_within(room).saturating_add(1));
+}
+
+/// How many bytes the answers have.
+fn length_of_answers() -> usize {
+    let mut length = 0usize;
+    for parts in &ANSWERS {
+        length = length.saturating_add(length_of(parts));
+    }
+    length
 }
 
 #[test]
 fn an_event_whose_answer_is_cut_has_happened(rt: HostRuntime) {
-    let alloc = rt.alloc();
-    let parts: [&[u8]; 3] = [b"reply 292\n", ACCEPTED, b"\n"];
-    let reply = joined(&rt, alloc, &parts);
-    let answers: [&[u8]; 3] = [b"order done\n", reply.as_slice(), b"order done\n"];
-    let length = joined(&rt, alloc, &answers).len();
-    for room in 0..length {
-        ends_with_room(&rt, alloc, &answers, room);
+    let script = joined(&rt, rt.alloc(), EVENTS);
+    for room in 0..length_of_answers() {
+        ends_with_room(&rt, rt.alloc(), &script, room);
     }
 }

@@ -1,5 +1,6 @@
 //! Keys, paths, and desks over any tables.
 
+use crate::texts::is_so;
 use acvp_desk::{Desk, KeyRing, Keys, NewFault, Order, OrderReply, Seeds, order_on};
 use acvp_http::{Reply, Routes, handle_bytes};
 use acvp_tables::Tables;
@@ -55,7 +56,8 @@ pub(crate) fn desk_of_seven<T: Tables + Drop>(
         account: 7,
         secret: SECRET,
     };
-    assert_eq!(rt; order_on(&mut tables, &seven), OrderReply::Done(None));
+    let reply = order_on(&mut tables, &seven);
+    is_so(rt, matches!(reply, OrderReply::Done(None)), "an account");
     desk_over(rt, alloc, keys(rt), tables)
 }
 

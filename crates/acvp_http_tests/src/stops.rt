@@ -2,11 +2,13 @@
 //! adopted, the file has the rows after the events that were acknowledged, or after the next one, too.
 
 use crate::disks::{
-    Disks, Held, Stop, all_written, closed, disks, have_stopped, left_by_a_crash, opened,
+    Disks, Held, Left, MemoryFile, MemoryStore, OF_A_CRASH, Stop, all_written, closed, disks,
+    have_stopped, left_by_a_crash, opened,
 };
 use crate::rows::{rows, rows_alone};
 use crate::scripts::run_over;
 use crate::servers::{keys, keys_of, new_desk};
+use crate::texts::is_so;
 use crate::validation::{AFTERWARDS, AGAIN, ON_THE_SECOND_SESSION, REFUSED, VALIDATION};
 use acvp_desk::{Desk, Keys};
 use acvp_store::{SqlTables, adopt, create, migrate};
@@ -111,7 +113,11 @@ fn output_of<T: Tables>(
     script: Script<'_>,
 ) -> Vec<u8> {
     let outcome = run_over(rt, alloc, desk, script.text, Vec::new(alloc));
-    assert!(rt; outcome.answer == Ok(script.events));
+    is_so(
+        rt,
+        outcome.answer == Ok(script.events),
+        "the events of a script",
+    );
     outcome.writer
 }
 
@@ -140,6 +146,11 @@ fn one_event(text: &[u8]) -> Script<'_> {
     }
 }
 
+/// Whether a script with one event is acknowledged.
+fn is_done<T: Tables>(rt: &impl Abort, alloc: Global, desk: &mut Desk<T>, script: &[u8]) -> bool {
+    acknowledges(&output_of(rt, alloc, desk, one_event(script)))
+}
+
 /// The tables after a script with one event, and whether it is acknowledged.
 fn scripted<T: Tables + Drop>(
     rt: &impl Abort,
@@ -147,9 +158,13 @@ fn scripted<T: Tables + Drop>(
     tables: T,
     script: &[u8],
 ) -> (T, bool) {
-    let (tables, output) = run_script(rt, alloc, tables, one_event(script));
-    let done = acknowledges(&output);
-    (tables, done)
+    match new_desk(alloc, keys(rt), tables) {
+        Ok(mut desk) => {
+            let done = is_done(rt, alloc, &mut desk, script);
+            (desk.into_tables(), done)
+        }
+        Err((tables, _)) => (tables, false),
+    }
 }
 
 /// The tables after scripts, and how many events were acknowledged.
@@ -267,7 +282,7 @@ fn over_the_store<S: Alter + Drop>(
 }
 
 /// The connection to a database after some work, and what comes of it.
-pub(crate) fn happens<S: Alter + Drop>(
+fn happens<S: Alter + Drop>(
     rt: &impl Abort,
     alloc: Global,
     connection: Connection<S>,
@@ -285,11 +300,78 @@ pub(crate) fn happens<S: Alter + Drop>(
     }
 }
 
+/// What is left of a connection behind some work.
+#[derive(Drop)]
+enum Kept<S: Alter> {
+    /// The connection.
+    Open(Connection<S>),
+
+    /// The store below it: nothing that was committed is copied from the log any more.
+    Abandoned(S),
+}
+
+/// What is left of a connection behind some work, and what comes of it.
+fn keeps<S: Alter + Drop>(
+    rt: &impl Abort,
+    alloc: Global,
+    connection: Connection<S>,
+    work: Work<'_>,
+    is_abandoned: bool,
+) -> (Kept<S>, Came) {
+    let (connection, came) = happens(rt, alloc, connection, work);
+    if is_abandoned {
+        (Kept::Abandoned(connection.into_store()), came)
+    } else {
+        (Kept::Open(connection), came)
+    }
+}
+
+/// The same of a connection to files. What is generic over stores is handed this one here alone, since each such place
+/// is dear to prove.
+fn over_files(
+    rt: &impl Abort,
+    alloc: Global,
+    connection: MemoryFile,
+    work: Work<'_>,
+    is_abandoned: bool,
+) -> (Kept<MemoryStore>, Came) {
+    keeps(rt, alloc, connection, work, is_abandoned)
+}
+
+/// The connection to files after some work, and what comes of it.
+pub(crate) fn goes_on_over(
+    rt: &impl Abort,
+    alloc: Global,
+    connection: MemoryFile,
+    work: Work<'_>,
+) -> (MemoryFile, Came) {
+    let (kept, came) = over_files(rt, alloc, connection, work, false);
+    match kept {
+        Kept::Open(connection) => (connection, came),
+        Kept::Abandoned(_) => panic!(rt; "no connection"),
+    }
+}
+
+/// The disks as they are after some work, and what comes of it: nothing that was committed is copied from the log any
+/// more.
+pub(crate) fn stops_over(
+    rt: &impl Abort,
+    alloc: Global,
+    connection: MemoryFile,
+    work: Work<'_>,
+) -> (Disks, Came) {
+    let (kept, came) = over_files(rt, alloc, connection, work, true);
+    match kept {
+        Kept::Abandoned(store) => (store.close(), came),
+        Kept::Open(_) => panic!(rt; "no store"),
+    }
+}
+
 /// The disks after some work and the close of the file, and what comes of it.
 fn tried(rt: &impl Abort, alloc: Global, files: Disks, work: Work<'_>) -> (Disks, Came) {
     match opened(alloc, files) {
         Ok(connection) => {
-            let (connection, came) = happens(rt, alloc, connection, work);
+            let (connection, came) = goes_on_over(rt, alloc, connection, work);
             (closed(connection), came)
         }
         Err(files) => (files, events(alloc, 0)),
@@ -299,7 +381,11 @@ fn tried(rt: &impl Abort, alloc: Global, files: Disks, work: Work<'_>) -> (Disks
 /// What comes of some work over a database, whose files are opened anew.
 fn opened_anew(rt: &impl Abort, alloc: Global, held: &Held, work: Work<'_>) -> Came {
     match opened(alloc, disks(rt, alloc, held, Stop::Never)) {
-        Ok(connection) => happens(rt, alloc, connection, work).1,
+        Ok(connection) => {
+            let (connection, came) = goes_on_over(rt, alloc, connection, work);
+            closed(connection);
+            came
+        }
         Err(_) => events(alloc, 0),
     }
 }
@@ -313,14 +399,14 @@ fn are_the_same(one: &Came, other: &Came) -> bool {
 pub(crate) fn looked_at(rt: &impl Abort, alloc: Global, held: &Held) -> Came {
     let found = opened_anew(rt, alloc, held, Work::IsRead);
     // An empty database has the lines of what isn't there, and files that are no database have none.
-    assert!(rt; !found.bytes.is_empty());
+    is_so(rt, !found.bytes.is_empty(), "a database");
     found
 }
 
 /// What the files hold after work that meets no stop.
 pub(crate) fn after(rt: &impl Abort, alloc: Global, held: &Held, work: Work<'_>) -> Held {
     let (files, came) = tried(rt, alloc, disks(rt, alloc, held, Stop::Never), work);
-    assert_eq!(rt; came.done, work.events());
+    is_so(rt, came.done == work.events(), "all events");
     all_written(rt, alloc, &files)
 }
 
@@ -340,29 +426,60 @@ fn is_after(watched: &Watched<'_>, found: &Came, events: usize) -> bool {
     }
 }
 
-/// Asserts what a stop leaves: what was there after the events that were acknowledged, or after the next one.
-fn is_right(rt: &impl Abort, alloc: Global, watched: &Watched<'_>, held: &Held, done: usize) {
+/// Whether what is found is what it is after so many events, or after the next one.
+fn is_about(watched: &Watched<'_>, found: &Came, done: usize) -> bool {
+    is_after(watched, found, done) || is_after(watched, found, done.saturating_add(1))
+}
+
+/// Asserts that the same command goes on with a migration that was stopped.
+fn goes_on(rt: &impl Abort, alloc: Global, watched: &Watched<'_>, held: &Held) {
+    let again = after(rt, alloc, held, watched.work);
+    let found = looked_at(rt, alloc, &again);
+    is_so(rt, is_after(watched, &found, 1), "a migration");
+}
+
+/// Asserts what a stop leaves: what was there after the events that were acknowledged, or after the next one. Whether
+/// it is a migration that was stopped before it changed anything.
+fn is_stopped(
+    rt: &impl Abort,
+    alloc: Global,
+    watched: &Watched<'_>,
+    held: &Held,
+    done: usize,
+) -> bool {
     let found = looked_at(rt, alloc, held);
-    let is_before = is_after(watched, &found, done);
-    assert!(rt; is_before || is_after(watched, &found, done.saturating_add(1)));
-    // The same command goes on with a migration that was stopped.
-    if is_before && matches!(watched.work, Work::Migrates) {
-        let again = after(rt, alloc, held, watched.work);
-        assert!(rt; is_after(watched, &looked_at(rt, alloc, &again), 1));
+    is_so(rt, is_about(watched, &found, done), "what a stop leaves");
+    matches!(watched.work, Work::Migrates) && is_after(watched, &found, done)
+}
+
+/// Asserts what a stop leaves, and what a migration then comes to.
+fn is_right(rt: &impl Abort, alloc: Global, watched: &Watched<'_>, held: &Held, done: usize) {
+    if is_stopped(rt, alloc, watched, held, done) {
+        goes_on(rt, alloc, watched, held);
     }
+}
+
+/// Asserts what is right of all that a crash may leave.
+fn are_right(rt: &impl Abort, alloc: Global, watched: &Watched<'_>, left: &Left, done: usize) {
+    for synced in OF_A_CRASH {
+        is_right(rt, alloc, watched, &left.held(rt, alloc, synced), done);
+    }
+}
+
+/// What the disks are after some work that a stop may meet, and how many events were acknowledged.
+fn stopped(rt: &impl Abort, alloc: Global, watched: &Watched<'_>, stop: Stop) -> (Disks, usize) {
+    let files = disks(rt, alloc, &watched.held, stop);
+    let (files, came) = tried(rt, alloc, files, watched.work);
+    (files, came.done)
 }
 
 /// What a stop was met by: how many events were acknowledged, or nothing where it wasn't met.
 fn stops(rt: &impl Abort, alloc: Global, watched: &Watched<'_>, stop: Stop) -> Option<usize> {
-    let files = disks(rt, alloc, &watched.held, stop);
-    let (mut files, came) = tried(rt, alloc, files, watched.work);
-    let done = came.done;
-    let stopped = have_stopped(&mut files);
-    assert!(rt; stopped || done == watched.work.events());
-    for held in &left_by_a_crash(rt, alloc, files) {
-        is_right(rt, alloc, watched, held, done);
-    }
-    if stopped { Some(done) } else { None }
+    let (mut files, done) = stopped(rt, alloc, watched, stop);
+    let is_met = have_stopped(&mut files);
+    is_so(rt, is_met || done == watched.work.events(), "all events");
+    are_right(rt, alloc, watched, &left_by_a_crash(rt, alloc, files), done);
+    if is_met { Some(done) } else { None }
 }
 
 /// More calls than any work makes of a disk.
@@ -385,28 +502,41 @@ fn stops_at_each(rt: &impl Abort, alloc: Global, watched: &Watched<'_>, of_the_l
             Some(_) => behind_it = behind_it.saturating_add(1),
             None => {
                 // One of each tells nothing: the first stop, and that behind the last call.
-                assert!(rt; 1 < before_the_end && 1 < behind_it);
+                is_so(rt, 1 < before_the_end && 1 < behind_it, "stops");
                 return;
             }
         }
     }
-    assert!(rt; false, "work without an end");
+    is_so(rt, false, "an end of the work");
+}
+
+/// What is found after so many events of some work.
+fn state_after(rt: &impl Abort, alloc: Global, held: &Held, work: Work<'_>, events: usize) -> Came {
+    let next = after(rt, alloc, held, work.up_to(events));
+    looked_at(rt, alloc, &next)
+}
+
+/// Asserts that what is found is a store, and differs from what was found last.
+fn is_next(rt: &impl Abort, states: &[Came], found: &Came) {
+    is_so(rt, found.done == 1, "a store");
+    if let Some(last) = states.last() {
+        is_so(rt, last.bytes != found.bytes, "a change");
+    }
+}
+
+/// Puts what is found behind what was found before.
+fn put(rt: &impl Abort, states: &mut Vec<Came>, found: Came) {
+    states.push(found).ok().expect(rt, "memory");
 }
 
 /// What is found before some work and after each of its events, each of which changes it.
 fn states(rt: &impl Abort, alloc: Global, held: &Held, work: Work<'_>) -> Vec<Came> {
     let mut all: Vec<Came> = Vec::new(alloc);
-    all.push(looked_at(rt, alloc, held))
-        .ok()
-        .expect(rt, "memory");
+    put(rt, &mut all, looked_at(rt, alloc, held));
     for place in 0..work.events() {
-        let next = after(rt, alloc, held, work.up_to(place.saturating_add(1)));
-        let found = looked_at(rt, alloc, &next);
-        assert_eq!(rt; found.done, 1);
-        if let Some(last) = all.last() {
-            assert!(rt; last.bytes != found.bytes);
-        }
-        all.push(found).ok().expect(rt, "memory");
+        let found = state_after(rt, alloc, held, work, place.saturating_add(1));
+        is_next(rt, &all, &found);
+        put(rt, &mut all, found);
     }
     all
 }
@@ -453,8 +583,8 @@ fn a_stop_leaves_the_tables_before_a_migration_or_after_it(rt: HostRuntime) {
 /// Asserts what is read of a store by some work, when its files are opened anew.
 fn gives(rt: &impl Abort, alloc: Global, held: &Held, work: Work<'_>, wanted: &[u8]) {
     let came = opened_anew(rt, alloc, held, work);
-    assert_eq!(rt; came.done, 1);
-    assert_eq!(rt; came.bytes.as_slice(), wanted);
+    is_so(rt, came.done == 1, "a store");
+    is_so(rt, came.bytes.as_slice() == wanted, "what is read");
 }
 
 #[test]

@@ -17,6 +17,11 @@ pub(crate) const LOST: &[u8] = b"GET /acvp/v2 HTTP/1.0\r\n\r\n";
 pub(crate) const NO_ROUTE: &[u8] =
     b"HTTP/1.1 404 Not Found\r\nDate: Thu, 01 Jan 1970 00:01:30 GMT\r\nContent-Type: application/json\r\nContent-Length: 42\r\nConnection: close\r\n\r\n[{\"acvVersion\":\"1.0\"},{\"error\":\"noRoute\"}]";
 
+/// Asserts what is so.
+pub(crate) fn is_so(rt: &impl Abort, holds: bool, what: &str) {
+    assert!(rt; holds, "{what}");
+}
+
 /// Puts bytes behind others.
 pub(crate) fn push(rt: &impl Abort, bytes: &mut Vec<u8>, part: &[u8]) {
     bytes.extend_from_slice(part).ok().expect(rt, "memory");
