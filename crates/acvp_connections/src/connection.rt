@@ -1,5 +1,5 @@
 //! Connections to the database in a file.
-ghost use Rattle.std.specs.Prelude.{◌≡◌, IfNone, IfOk, IfSome, IsErr, IsTrue, codes, false, true};
+ghost use Rattle.std.specs.Prelude.{◌≡◌, IfNone, IfOk, IfSome, IsErr, IsTrue, Ok, codes, false, true};
 ghost use Rattle.std.specs.Result.{result_ok};
 ghost use Rattle.sqlite.specs.Closing.{IsCopied};
 ghost use Rattle.sqlite.specs.Files.{IsClosed};
@@ -19,7 +19,7 @@ use acvp_causes::{
     cause_of_files, cause_of_path, has_log, is_companion, is_copy, is_foreign, is_left_alone,
     is_moved,
 };
-use sqlite::{Connection, Error, FileFrom, FileStore, Files, Options, Start};
+use sqlite::{Connection, Error, FileFrom, FileStore, Files, Leftover, Options, Start};
 use sqlite_disk::Disk;
 use sqlite_std_file::OpenError;
 use std::alloc::AllocGlobal;
@@ -82,6 +82,22 @@ fn options(rt: &HostRuntime) -> Result<Options, Unopened> {
     }
 }
 
+/// A connection that was opened, with the machine's clock. What an open has left that failed is given up.
+fn clocked<D: Disk + Drop>(
+    rt: &HostRuntime,
+    opened: Result<Connection<FileStore<D>>, (Error, Leftover<D>)>,
+) -> Result<Connection<FileStore<D>>, Unopened>
+    ensures { IfOk result (λ connection. opened ≡ Ok connection) }
+{
+    match opened {
+        Ok(mut connection) => {
+            connection.set_clock(rt);
+            Ok(connection)
+        }
+        Err((error, _)) => Err(Unopened::Failed(fault_of_error(error))),
+    }
+}
+
 /// A connection to the database in a file, which is made where there is none. The pages of a new one have sums.
 fn connect<S: Start>(
     rt: &HostRuntime,
@@ -101,13 +117,7 @@ fn connect<S: Start>(
     watch.begin_open();
     let opened = Connection::open_files_with(rt.alloc(), watched, options, true);
     watch.end();
-    match opened {
-        Ok(mut connection) => {
-            connection.set_clock(rt);
-            Ok(connection)
-        }
-        Err((error, _)) => Err(Unopened::Failed(fault_of_error(error))),
-    }
+    clocked(rt, opened)
 }
 
 /// Whether the files of a name may be taken for a database's: the file, if it is there, isn't mounted by itself, and no
