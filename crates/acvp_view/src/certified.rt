@@ -1,15 +1,17 @@
 //! What is certified by an approved request, as the records have it.
-ghost use Rattle.std.specs.Prelude.{◌≡◌, ◌<◌, ◌++◌, List, [], ◌∷◌, IfOk, IsTrue, OnOk, Some, option_map};
-ghost use Rattle.std.specs.Prelude.{string_bytes};
+ghost use Rattle.std.specs.Prelude.{◌≡◌, ◌<◌, ◌++◌, List, [], ◌∷◌, IfOk, IsTrue, OnOk, Some};
+ghost use Rattle.std.specs.Prelude.{option_and_then, option_map, string_bytes};
 ghost use Rattle.std.specs.List.{AllZip};
 ghost use Rattle.sqlite.specs.Held.{state};
 ghost use Rattle.acvp_desk.specs.Serves.{Looks};
+ghost use Rattle.acvp_registry.specs.declared.kind.Kind.TheVariants.{Module};
 ghost use Rattle.acvp_store.specs.Store.{meaning_of, stands};
 ghost use Rattle.acvp_tables.specs.Calls.{Finds};
 ghost use Rattle.acvp_tables.specs.Content.{Content, is_live_in, live_sets, object_at, session_at};
 ghost use Rattle.acvp_tables.specs.State.{AreWellNumbered};
 ghost use Rattle.acvp_view.specs.Certificate.{answers_digest, approved_by, approved_in, disposition_under, document};
-ghost use Rattle.acvp_view.specs.Certified.{AreSetsOf, IsCertificate, IsCertifiedSet, read_text};
+ghost use Rattle.acvp_view.specs.Certified.{AreCertified, AreSetsOf, IsCertificate, IsCertifiedSet, read_text};
+ghost use Rattle.acvp_view.specs.Certified.{vendor_in};
 ghost use Rattle.acvp_view.specs.declared.certificate.Certificate.{Certificate as CertificateValue};
 ghost use Rattle.acvp_view.specs.declared.certificate.CertifiedSet.{CertifiedSet as CertifiedSetValue};
 
@@ -217,6 +219,42 @@ fn created<T: Tables>(tables: &mut T, session: u64) -> Result<u64, ViewFault>
     }
 }
 
+/// The texts of a module and of the vendor that it names.
+fn sold<T: Tables>(
+    alloc: Global,
+    tables: &mut T,
+    number: u64,
+) -> Result<(String, String), ViewFault>
+    ensures it { Finds T.meaning (λ texts. Some (string_bytes texts.0)) result tables.old tables.new
+        (λ c. option_map read_text (object_at Module number c.objects)) }
+    ensures by { Finds T.meaning (λ texts. Some (string_bytes texts.1)) result tables.old tables.new
+        (λ c. option_map read_text (option_and_then (vendor_in c) (object_at Module number c.objects))) }
+    ensures looks { Looks T.meaning result tables.old tables.new }
+{
+    let row = registered(tables, Kind::Module, number)?;
+    let Some(vendor) = row.object.vendor() else {
+        return Err(ViewFault::Refused);
+    };
+    let vendor = text_of(alloc, tables, Kind::Vendor, vendor)?;
+    Ok((object_text(alloc, &row)?, vendor))
+}
+
+/// The vector sets of a session that are certified, of the rows of its account.
+fn certified_of<S: Alter + Drop>(
+    alloc: Global,
+    tables: &mut SqlTables<S>,
+    seeds: &Seeds,
+    account: u16,
+    session: u64,
+) -> Result<Vec<CertifiedSet>, ViewFault>
+    ensures sets { IsTrue (state S.Store tables.new).is_open → IfOk result (λ sets. (c : Content)
+        → stands S.Store tables.old c → AreCertified seeds.now c account session sets.items) }
+    ensures looks { Looks (meaning_of S.Store) result tables.old tables.new }
+{
+    let rows = sets_of_account(tables, account)?;
+    certified_sets(alloc, &rows, session, seeds)
+}
+
 /// What is certified by the approved request of a number.
 fn certificate<S: Alter + Drop>(
     alloc: Global,
@@ -232,22 +270,18 @@ fn certificate<S: Alter + Drop>(
         return Err(ViewFault::Unknown);
     };
     let created = created(tables, certification.session)?;
-    let module = registered(tables, Kind::Module, certification.module)?;
-    let Some(vendor) = module.object.vendor() else {
-        return Err(ViewFault::Refused);
-    };
-    let vendor = text_of(alloc, tables, Kind::Vendor, vendor)?;
+    let (module, vendor) = sold(alloc, tables, certification.module)?;
     let environment = text_of(alloc, tables, Kind::Environment, certification.environment)?;
-    let rows = sets_of_account(tables, account)?;
+    let sets = certified_of(alloc, tables, seeds, account, certification.session)?;
     Ok(Certificate {
         request: number,
         account,
         session: certification.session,
         created,
-        module: object_text(alloc, &module)?,
+        module,
         vendor,
         environment,
-        sets: certified_sets(alloc, &rows, certification.session, seeds)?,
+        sets,
     })
 }
 
