@@ -4,13 +4,15 @@ ghost use Rattle.sqlite.specs.Files.{file_state, over_files};
 ghost use Rattle.sqlite.specs.Held.{Held};
 ghost use Rattle.sqlite.specs.State.{HasCleanDisk};
 ghost use Rattle.acvp_tables.specs.Content.{Content, no_rows};
+ghost use Rattle.acvp_tables.specs.State.{state_of};
 ghost use Rattle.acvp_desk.specs.Kept.{IsKept};
 ghost use Rattle.acvp_desk.specs.declared.keys.Keys.{Keys};
 ghost use Rattle.acvp_desk.specs.declared.order.Order.{Order};
 ghost use Rattle.acvp_desk.specs.declared.order.OrderReply.{OrderReply};
-ghost use Rattle.acvp_http.specs.Event.{CanHappen, order, ordered};
+ghost use Rattle.acvp_http.specs.Event.{CanHappen, Turn, order, ordered};
 ghost use Rattle.acvp_http.specs.Serve.{GoesThrough};
 ghost use Rattle.acvp_http.specs.Life.{AddsSeeds, Run};
+ghost use Rattle.acvp_http.specs.LifePromise.{IsAnsweredInLife, turns_in};
 ghost use Rattle.acvp_store.specs.Store.{stands};
 ghost use Rattle.acvp_commands.specs.FileLife.{CanBeDone, GoesOverFile, HasLived, IsNotBegun, Resumes, RunsOver};
 ghost use Rattle.acvp_commands.specs.FileLife.{keys_of_task};
@@ -25,7 +27,7 @@ ghost use Rattle.sqlite_store.specs.declared.store.FileStore.{FileStore};
 
 use crate::host::Host;
 use acvp_desk::{records_are_kept, records_outlast_keys};
-use acvp_http::{orders_are_turns, turns_leave};
+use acvp_http::{lives_are_promised, orders_are_turns, turns_leave};
 use acvp_store::SqlTables;
 use acvp_tables::Tables;
 use sqlite::FileStore;
@@ -63,7 +65,9 @@ pub fn commands_are_runs<T: Tables>()
 /// closed, or shows what a crash may leave of the connection that it held, behind any of its turns. Then the file has
 /// lived through one run more: it goes over the records that those before it left, which are kept under its own seeds,
 /// so it is as `runs_are_promised` says; what is open stands for what it left, and behind a crash at most the effect of
-/// one event more is there, which was unavailable. So no run, however many there were, loses what was answered.
+/// one event more is there, which was unavailable. So no run, however many there were, loses what was answered: the turns
+/// of all runs are one list, each of which is answered over the records that the accepted ones before it left, as
+/// `lives_are_promised` says.
 pub fn files_live_on<D: Disk, E: Disk>()
     ensures begins { (seeds : List (List ℕ)) (made : Held (FileStore D D.Disk)) → IsTrue (file_state made).is_open
         → stands over_files made no_rows → HasLived no_rows [] seeds made }
@@ -74,7 +78,11 @@ pub fn files_live_on<D: Disk, E: Disk>()
         (opened last : Held (FileStore D D.Disk)) (next : Held (FileStore E E.Disk))
         → ∥ HasLived first runs seeds opened ∥₁ → AddsSeeds seeds (run ∷ []) → GoesOverFile run opened last
         → Resumes run.closed last next → ∥ HasLived first (runs ++ run ∷ []) run.keys.seed next ∥₁ }
+    ensures promised { (first : Content) (runs : List Run) (seeds : List (List ℕ)) (tables : Held (FileStore D D.Disk))
+        → ∥ HasLived first runs seeds tables ∥₁ → (earlier later : List Turn) (turn : Turn)
+        → turns_in runs ≡ earlier ++ turn ∷ later → ∥ IsAnsweredInLife runs earlier turn (state_of first) ∥₁ }
 {
+    lives_are_promised();
     turns_leave::<SqlTables<FileStore<D>>>();
     records_are_kept();
     records_outlast_keys();

@@ -33,5 +33,6 @@ pub mod Isolated
 pub mod Denied
 pub mod ToldLemmas
 pub mod PromiseLemmas
+pub mod LifeLemmas
 pub mod AnsweredApart
 pub mod OneRun

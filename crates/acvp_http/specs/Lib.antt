@@ -13,6 +13,7 @@ pub mod Run
 pub mod Headline
 pub mod Isolation
 pub mod Promise
+pub mod LifePromise
 pub mod Needed
 pub mod Connection
 pub mod Told

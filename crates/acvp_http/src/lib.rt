@@ -27,7 +27,7 @@ mod writing;
 pub use connection::{Ended, ServeFault, serve_one};
 pub use framing::BODY_BYTES;
 pub use head::HEAD_BYTES;
-pub use life::{lives_leave_records, orders_are_turns, runs_are_promised};
+pub use life::{lives_are_promised, lives_leave_records, orders_are_turns, runs_are_promised};
 pub use needed::needed_bytes;
 pub use nothing::run_from_nothing;
 pub use promise::{denials_are_alike, headline, isolation, request_isolation};

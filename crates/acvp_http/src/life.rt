@@ -8,6 +8,7 @@ ghost use Rattle.acvp_desk.specs.declared.order.Order.{Order};
 ghost use Rattle.acvp_desk.specs.declared.order.OrderReply.{OrderReply};
 ghost use Rattle.acvp_http.specs.Event.{CanHappen, order, ordered};
 ghost use Rattle.acvp_http.specs.Life.{AddsSeeds, GoesOver, Life, Run, last_seeds};
+ghost use Rattle.acvp_http.specs.LifePromise.{LifeHeadline, LifeHeadlineLeft};
 ghost use Rattle.acvp_http.specs.Promise.{IsPromised};
 ghost use Rattle.acvp_http.specs.Serve.{HandlesTurn};
 
@@ -22,6 +23,16 @@ pub fn runs_are_promised()
 {
     headline();
     isolation();
+}
+
+/// The headline over a whole life, whose turns are one list. Each of them is answered, in its place among all answers,
+/// over the records that the accepted turns before it left, in its own run and in those before; to which each stop adds
+/// at most the effect of one turn that was unavailable.
+pub fn lives_are_promised()
+    ensures told { LifeHeadline }
+    ensures left { LifeHeadlineLeft }
+{
+    headline();
 }
 
 /// What every run leaves of the records, whatever is asked and ordered, is so after a run, and after a life: of runs that

@@ -28,3 +28,8 @@ returns-clause-goes_on g c = λ first runs run seeds opened last next lived adds
     one_more c.records_are_kept.ensures.request c.records_are_kept.ensures.order c.records_outlast_keys.ensures.kept
     c.turns_leave.ensures
     first runs run seeds opened last next it adds went resumes)
+
+pub returns-clause-promised : goal.returns-clause-promised
+returns-clause-promised g c = λ first runs seeds tables lived earlier later turn is.
+    ∥∥₁_elim lived squash₁ (λ it.
+    ∣ c.lives_are_promised.ensures.told runs earlier later turn first it.records it.life is ∣₁)
